@@ -1,0 +1,4 @@
+pub mod Orders
+pub mod Plain
+pub mod Cuts
+pub mod Meaning
