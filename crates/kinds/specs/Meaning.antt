@@ -3,7 +3,9 @@ use mathlib.Core.Path.{_≡_}
 use mathlib.Core.List.{List}
 use mathlib.Core.Bool.{Bool, true, false, _&&_}
 use Prim.Native.Nat.{ℕ, _≤_}
+use native.Mathlib.Omega.{arith}
 use lib.Dec.{eqb, leb}
+use Rattle.std.proofs.shelf.Tests.{eqb-true}
 use Rattle.std.specs.declared.option.Option.{Option}
 use Rattle.std.specs.declared.option.Option.the-variants.{Some, None}
 use Rattle.kinds.specs.declared.physical.PhysicalType.{PhysicalType}
@@ -25,6 +27,10 @@ thrift FixedLenByteArray = 7
 abbrev pub admitted : Option ℕ → ℕ → Bool
 admitted (Some k) w = eqb w k
 admitted None w = leb 1 w && leb w 128
+
+-- a fixed width of at most 128 bytes is the only one admitted
+pub fixed-few : (k : ℕ) → k ≤ 128 → (w : ℕ) → admitted (Some k) w ≡ true → w ≤ 128
+fixed-few k h w e = omega (arith, eqb-true w k e)
 
 pub record Meaning : Type 0 where
   -- the kind's own number, and that of its physical type

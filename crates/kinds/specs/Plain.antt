@@ -22,11 +22,6 @@ four n = n % 256 ∷ n / 256 % 256 ∷ n / 65536 % 256 ∷ n / 16777216 % 256 �
 abbrev pub plain : ℕ → List ℕ → List ℕ
 plain w v = cond (eqb w 0) (four (length v) ++ v) v
 
--- the number that little-endian bytes stand for
-abbrev pub little : List ℕ → ℕ
-little [] = 0
-little (b ∷ v) = b + 256 * little v
-
 -- what asking for the plain size of a value answers: absent exactly if the value's length is wrong
 abbrev pub PlainSize : ℕ → List ℕ → Option ℕ → Type 0
 PlainSize w v (Some n) = (sized w v ≡ true) × (n ≡ length (plain w v))
