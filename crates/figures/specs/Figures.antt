@@ -109,5 +109,5 @@ pub record FiguresOf {V : Type 0} (m : Meaning) (bytes : V → List ℕ) (vs : L
 
 -- absent exactly for the empty list
 abbrev pub Found : {V : Type 0} → Meaning → (V → List ℕ) → List (List ℕ) → Option (MinMax V) → Type 0
-Found m bytes vs None = length vs ≡ 0
+Found m bytes vs None = vs ≡ []
 Found m bytes vs (Some r) = FiguresOf m bytes vs r

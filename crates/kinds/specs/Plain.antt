@@ -22,9 +22,10 @@ four n = n % 256 ∷ n / 256 % 256 ∷ n / 65536 % 256 ∷ n / 16777216 % 256 �
 abbrev pub plain : ℕ → List ℕ → List ℕ
 plain w v = cond (eqb w 0) (four (length v) ++ v) v
 
--- what asking for the plain size of a value answers: absent exactly if the value's length is wrong
+-- what asking for the plain size of a value answers: absent exactly if the value's length is wrong, and at most 132
+-- at a width that a column may have
 abbrev pub PlainSize : ℕ → List ℕ → Option ℕ → Type 0
-PlainSize w v (Some n) = (sized w v ≡ true) × (n ≡ length (plain w v))
+PlainSize w v (Some n) = (sized w v ≡ true) × (n ≡ length (plain w v)) × (w ≤ 128 → n ≤ 132)
 PlainSize w v None = sized w v ≡ false
 
 -- what laying bytes at the front of old answers and leaves: absent, and nothing changed, exactly if they do not fit

@@ -1,6 +1,6 @@
 ghost use mathlib.Core.List.{_++_};
 ghost use mathlib.Core.Path.{_≡_};
-ghost use Prim.Native.Nat.{_+_, _≤_};
+ghost use Prim.Native.Nat.{_+_, _*_, _≤_};
 ghost use lib.ListN.{length, take, drop};
 ghost use Rattle.kinds.specs.Plain.{PlainSize, Laid, Reads, ReadsBack, plain, four, seen};
 
@@ -75,7 +75,7 @@ pub fn read_plain(width: usize, bytes: &[u8]) -> Option<(&[u8], usize)>
     if bytes.len() < 4 {
         return None;
     }
-    let length = u32::from_le_bytes([bytes[0], bytes[1], bytes[2], bytes[3]]) as usize;
+    let length = length_of(bytes[0], bytes[1], bytes[2], bytes[3]);
     if length > 128 {
         return None;
     }
@@ -84,4 +84,11 @@ pub fn read_plain(width: usize, bytes: &[u8]) -> Option<(&[u8], usize)>
     }
     let end = 4 + length;
     Some((&bytes[4..end], end))
+}
+
+// The length that four little-endian bytes give.
+fn length_of(a: u8, b: u8, c: u8, d: u8) -> usize
+    ensures { λ r. ⌜ r ≡ a + b * 256 + c * 65536 + d * 16777216 ⌝ }
+{
+    u32::from_le_bytes([a, b, c, d]) as usize
 }

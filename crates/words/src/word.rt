@@ -10,13 +10,13 @@ fn byte_at(value: &[u8], i: usize) -> u8
 }
 
 // The first two bytes; one that is missing is 0.
-pub fn first2(value: &[u8]) -> [u8; 2]
+fn first2(value: &[u8]) -> [u8; 2]
     ensures { λ r. ⌜ r ≡ getD (now (value .entry)) 0 0 ∷ getD (now (value .entry)) 1 0 ∷ [] ⌝ }
 {
     [byte_at(value, 0), byte_at(value, 1)]
 }
 
-pub fn first4(value: &[u8]) -> [u8; 4]
+fn first4(value: &[u8]) -> [u8; 4]
     ensures { λ r. ⌜ r ≡ getD (now (value .entry)) 0 0 ∷ getD (now (value .entry)) 1 0 ∷ getD (now (value .entry)) 2 0 ∷ getD (now (value .entry)) 3 0 ∷ [] ⌝ }
 {
     [
@@ -27,7 +27,7 @@ pub fn first4(value: &[u8]) -> [u8; 4]
     ]
 }
 
-pub fn first8(value: &[u8]) -> [u8; 8]
+fn first8(value: &[u8]) -> [u8; 8]
     ensures { λ r. ⌜ r ≡ getD (now (value .entry)) 0 0 ∷ getD (now (value .entry)) 1 0 ∷ getD (now (value .entry)) 2 0 ∷ getD (now (value .entry)) 3 0 ∷ getD (now (value .entry)) 4 0 ∷ getD (now (value .entry)) 5 0 ∷ getD (now (value .entry)) 6 0 ∷ getD (now (value .entry)) 7 0 ∷ [] ⌝ }
 {
     [

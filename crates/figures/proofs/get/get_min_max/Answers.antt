@@ -3,7 +3,7 @@ use mathlib.Core.List.{List, map}
 use Prim.Native.Nat.{ℕ, _+_, _<_}
 use native.Mathlib.Omega.{arith}
 use lib.ListN.{length, take, getD}
-use Rattle.std.proofs.shelf.Lists.{length-map, take-all}
+use Rattle.std.proofs.shelf.Lists.{length-map, nil-from-length, take-all}
 use Rattle.std.specs.declared.option.Option.the-variants.{Some}
 use Rattle.figures.specs.Figures.{smallest, largest, nan-count, nan-at, lower-place, higher-place}
 use Rattle.figures.proofs.Joined.{joins}
@@ -12,7 +12,11 @@ use Rattle.figures.proofs.get.get_min_max.Needs as need
 
 pub returns-then-values-eq0 : need.returns-then-values-eq0
 returns-then-values-eq0 g c =
-    record { found = length-map (c .args .values .now) (g .V·ValueOf .bytes) ∙ c .if-values-eq0 .taken; joins = joins (g .K·Kind .meaning) }
+    let xs = c .args .values .now in
+    record {
+      found = nil-from-length (map (g .V·ValueOf .bytes) xs) (length-map xs (g .V·ValueOf .bytes) ∙ c .if-values-eq0 .taken);
+      joins = joins (g .K·Kind .meaning);
+    }
 
 pub loop-i-holds : need.loop-i-holds
 loop-i-holds g c =

@@ -1,4 +1,4 @@
-use mathlib.Core.Path.{refl, sym, ap, _∙_}
+use mathlib.Core.Path.{sym, ap, _∙_}
 use mathlib.Core.List.{_++_}
 use native.Mathlib.Omega.{arith}
 use lib.ListN.{length}
@@ -8,4 +8,8 @@ use Rattle.kinds.proofs.cuts.truncate_none_max.Needs as need
 pub returns : need.returns
 returns c =
     let v = c .args .value .now in
-    record { long = refl; cut = refl; bound = sym (ap (λ x. v ++ x) (drop-all (length v) v (omega arith)) ∙ append-nil v) }
+    record {
+      long = c .uncut .ensures .length;
+      cut = c .uncut .ensures .cut;
+      bound = sym (ap (λ x. v ++ x) (drop-all (length v) v (omega arith)) ∙ append-nil v);
+    }

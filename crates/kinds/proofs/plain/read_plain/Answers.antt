@@ -34,23 +34,23 @@ pub returns-then-length-gt128 : need.returns-then-length-gt128
 returns-then-length-gt128 c =
     let w = c .args .width in
     let bs = c .args .bytes .now in
-    let h : Reads w bs None = none-variable w bs (c .if-width-gt0 .left) (λ few. omega (arith, c .from-le-bytes-length .ensures)) in
+    let h : Reads w bs None = none-variable w bs (c .if-width-gt0 .left) (λ few. omega (arith, c .length-of-length .ensures)) in
     record { reads = h; back = reads-back w bs None h }
 
 pub returns-then-bytes-length : need.returns-then-bytes-length
 returns-then-bytes-length c =
     let w = c .args .width in
     let bs = c .args .bytes .now in
-    let h : Reads w bs None = none-variable w bs (c .if-width-gt0 .left) (λ few. omega (arith, c .from-le-bytes-length .ensures)) in
+    let h : Reads w bs None = none-variable w bs (c .if-width-gt0 .left) (λ few. omega (arith, c .length-of-length .ensures)) in
     record { reads = h; back = reads-back w bs None h }
 
 pub returns : need.returns
 returns c =
     let w = c .args .width in
     let bs = c .args .bytes .now in
-    let n = c .from-le-bytes-length .result in
+    let n = c .length-of-length .result in
     let z : n ≡ 4 + n - 4 = omega arith in
     let h : Reads w bs (Some (take (4 + n - 4) (drop 4 bs), 4 + n)) =
     subst (λ k. Reads w bs (Some (take k (drop 4 bs), 4 + n))) z
-    (some-variable w bs n (c .if-width-gt0 .left) (omega arith) (sym (c .from-le-bytes-length .ensures)) (omega arith) (omega arith)) in
+    (some-variable w bs n (c .if-width-gt0 .left) (omega arith) (sym (c .length-of-length .ensures)) (omega arith) (omega arith)) in
     record { reads = h; back = reads-back w bs (Some (take (4 + n - 4) (drop 4 bs), 4 + n)) h }
