@@ -1,0 +1,4 @@
+pub mod Formats
+pub mod Laws
+pub mod Coders
+pub mod Lists

@@ -1,0 +1,4 @@
+pub mod Unicode
+pub mod Leads
+pub mod Cut
+pub mod Steps
