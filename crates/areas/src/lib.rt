@@ -1,6 +1,9 @@
 // Lent areas, and the places in them where pages lie.
 // What every sink over an area does with bytes: test a size, lay bytes down, read a place.
 // Total: what does not fit changes nothing, and a place past the end has fewer bytes.
+
+#![tactic(auto)]
+
 mod area;
 mod place;
 mod reads;

@@ -1,4 +1,7 @@
 // The two coders of page bodies: `Plain`, which changes nothing, and `Split`, the format's BYTE_STREAM_SPLIT.
+
+#![tactic(auto)]
+
 mod plain;
 mod split;
 

@@ -1,6 +1,8 @@
 // The kinds of byte strings: undecorated bytes of either physical type, String, and Decimal on either.
 // Each shows its meaning, its order's laws and its cuts' by the trait `Kind`; its values come in as slices.
 
+#![tactic(auto)]
+
 mod byte_array;
 mod decimal_byte_array;
 mod decimal_fixed_len_byte_array;

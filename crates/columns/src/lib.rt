@@ -1,5 +1,7 @@
 // What a chunk is opened with: a column, settings and two coders, and whether they are allowed.
 
+#![tactic(auto)]
+
 mod allowed;
 mod column;
 mod settings;

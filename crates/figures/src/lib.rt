@@ -1,5 +1,7 @@
 // Figures of a list of values: smallest, largest and NaN count, as a page and a chunk keep them.
 
+#![tactic(auto)]
+
 mod get;
 mod min_max;
 mod update;

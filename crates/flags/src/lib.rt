@@ -1,5 +1,7 @@
 // The order of pages: whether their figures rise or fall from each page with values to the next.
 
+#![tactic(auto)]
+
 mod methods;
 mod tracker;
 

@@ -1,5 +1,7 @@
 // The kinds of floating-point values, by bit pattern: FLOAT, DOUBLE and Float16.
 
+#![tactic(auto)]
+
 mod double_kind;
 mod float16_kind;
 mod float_kind;

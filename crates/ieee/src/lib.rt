@@ -1,5 +1,7 @@
 // IEEE 754 data by their bit patterns: the total order and NaN of binary16, binary32 and binary64.
 
+#![tactic(auto)]
+
 mod nan;
 mod total;
 

@@ -1,5 +1,7 @@
 // The kinds of integers: INT32 and INT64, signed and unsigned.
 
+#![tactic(auto)]
+
 mod int32_kind;
 mod int64_kind;
 mod signed;

@@ -2,6 +2,8 @@
 // byte strings, so that bounds, which may be no values of the kind, are compared by the same order;
 // typed values come in by `ValueOf`.
 
+#![tactic(auto)]
+
 mod cuts;
 mod descriptor;
 mod kind;

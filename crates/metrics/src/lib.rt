@@ -1,6 +1,8 @@
 // What is counted of a page while it is open, and of a chunk from its pages: levels, rows, nulls, NaN
 // and how often each level stands.
 
+#![tactic(auto)]
+
 mod column;
 mod column_methods;
 mod histogram;

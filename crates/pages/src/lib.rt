@@ -1,5 +1,7 @@
 // One page's bytes, assembled from levels and plain bytes, and the refusals of the page layer.
 
+#![tactic(auto)]
+
 mod assembly;
 mod counts;
 mod fault;

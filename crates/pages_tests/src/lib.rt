@@ -1,4 +1,6 @@
 // Pages byte for byte, and read back: worked examples for every pair of coders and both versions.
 
+#![tactic(auto)]
+
 #[cfg(test)]
 mod worked;

@@ -1,5 +1,7 @@
 // The release of vats: a row of the day's log as it is read, and the judgement on a vat's hold temperatures.
 
+#![tactic(auto)]
+
 mod decision;
 mod row;
 mod verdict;

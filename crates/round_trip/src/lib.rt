@@ -1,5 +1,8 @@
 // Coding and reading in turn, for any coder: what goes in comes out, whatever the lists held before.
 // The format's own vectors are this crate's tests.
+
+#![tactic(auto)]
+
 mod body_trip;
 #[cfg(test)]
 mod body_vectors;

@@ -1,6 +1,9 @@
 // What a page sink means: its pages in order, the offset of each, and the lengths it takes.
 // Two traits, the reading half and above it the writing half, and the layer's refusals.
 // Nothing here implements them, so a further sink leaves this crate alone.
+
+#![tactic(auto)]
+
 mod fault;
 mod sink;
 mod store;

@@ -1,6 +1,8 @@
 // Byte strings: their unsigned order, and the bounds that a page index may hold in place of a longer
 // value. Below, the first bytes; above, these plus one as a big-endian number, where that fits.
 
+#![tactic(auto)]
+
 mod cut;
 mod increment;
 mod order;

@@ -1,6 +1,9 @@
 // Judges the vats of a day. Reads the day's log from standard input, a row for each reading: time, vat, hold temperature
 // in degrees Celsius, where an empty cell is a missing reading and `nan` a failed probe. Prints for each vat its
 // figures, and whether it may be released at the limit that the first argument gives, or at 72.0.
+
+#![tactic(auto)]
+
 use anyhow::anyhow;
 use floats::DoubleBits;
 use release::read_row;

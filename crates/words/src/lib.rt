@@ -1,6 +1,8 @@
 // Words of a value: its first two, four or eight bytes as a little-endian number, and the bytes of such
 // a number in lent room.
 
+#![tactic(auto)]
+
 mod lend;
 mod word;
 

@@ -11,7 +11,7 @@ returns c =
     let old = c.args.out.now in
     let k = length v in
     let once : c.put-2.new.out ≡ four k ++ drop 4 old =
-    c.put-2.ensures ∙ ap (λ x. x ++ drop (0 + length x) old) c.four-bytes.ensures in
+    c.put-2.ensures ∙ ap (λ x. x ++ drop (0 + length x) old) c.four_bytes.ensures in
     let rest : drop (4 + k) (four k ++ drop 4 old) ≡ drop (4 + k) old =
     sym (drop-drop k 4 (four k ++ drop 4 old)) ∙ drop-drop k 4 old in
     let e : c.put-3.new.out ≡ four k ++ (v ++ drop (4 + k) old) =

@@ -30,23 +30,23 @@ pub returns-then-length-gt128 : goal.returns-then-length-gt128
 returns-then-length-gt128 c =
     let w = c.args.width in
     let bs = c.args.bytes.now in
-    let h : Reads w bs None = none_variable w bs c.if-width-gt0.false (λ few. omega (arith, c.length-of-length.ensures)) in
+    let h : Reads w bs None = none_variable w bs c.if-width-gt0.false (λ few. omega (arith, c.length_of-length.ensures)) in
     record { reads = h; back = reads_back w bs None h }
 
 pub returns-then-bytes-length : goal.returns-then-bytes-length
 returns-then-bytes-length c =
     let w = c.args.width in
     let bs = c.args.bytes.now in
-    let h : Reads w bs None = none_variable w bs c.if-width-gt0.false (λ few. omega (arith, c.length-of-length.ensures)) in
+    let h : Reads w bs None = none_variable w bs c.if-width-gt0.false (λ few. omega (arith, c.length_of-length.ensures)) in
     record { reads = h; back = reads_back w bs None h }
 
 pub returns : goal.returns
 returns c =
     let w = c.args.width in
     let bs = c.args.bytes.now in
-    let n = c.length-of-length.result in
+    let n = c.length_of-length.result in
     let z : n ≡ 4 + n - 4 = omega arith in
     let h : Reads w bs (Some (take (4 + n - 4) (drop 4 bs), 4 + n)) =
     subst (λ k. Reads w bs (Some (take k (drop 4 bs), 4 + n))) z
-    (some_variable w bs n c.if-width-gt0.false (omega arith) (sym c.length-of-length.ensures) (omega arith) (omega arith)) in
+    (some_variable w bs n c.if-width-gt0.false (omega arith) (sym c.length_of-length.ensures) (omega arith) (omega arith)) in
     record { reads = h; back = reads_back w bs (Some (take (4 + n - 4) (drop 4 bs), 4 + n)) h }
