@@ -24,17 +24,17 @@ gather-word-requires c = record {
 
 pub spread-requires : goal.spread-requires
 spread-requires c =
-    let l : length (take (c.group-end-end.result - c.loop-given.given) (drop c.loop-given.given c.loop-given.out)) ≡ c.group-end-end.result - c.loop-given.given =
+    let l : length (take (c.group_end-end.result - c.loop-given.given) (drop c.loop-given.given c.loop-given.out)) ≡ c.group_end-end.result - c.loop-given.given =
     length-take-le _ (drop c.loop-given.given c.loop-given.out) (simp length-drop (omega arith)) in
     record {
       few = c.requires.word;
       narrow = c.requires.to;
-      there = omega (arith, mul-le (length (take (c.group-end-end.result - c.loop-given.given) (drop c.loop-given.given c.loop-given.out))) c.args.q c.args.p c.args.q (omega arith) (omega arith), mul_comm c.args.p c.args.q);
+      there = omega (arith, mul-le (length (take (c.group_end-end.result - c.loop-given.given) (drop c.loop-given.given c.loop-given.out))) c.args.q c.args.p c.args.q (omega arith) (omega arith), mul_comm c.args.p c.args.q);
       holds = c.gather-word.ensures.small;
     }
 
-pub overflow-add-taken : goal.overflow-add-taken
-overflow-add-taken c =
+pub overflow_add-taken : goal.overflow_add-taken
+overflow_add-taken c =
     let n = near c.args.p c.args.q (length c.args.out.now) c.loop-given.taken c.loop-given.given c.requires.some c.requires.to c.requires.few (omega arith) (c.loop-given.invariant.2 c.loop-given-test.true) in search rules
 
 pub loop-given-preserved : goal.loop-given-preserved
@@ -42,7 +42,7 @@ loop-given-preserved c =
     let out : List ℕ = c.loop-given.out in
     let j : ℕ = c.loop-given.given in
     let i : ℕ = c.loop-given.taken in
-    let e : ℕ = c.group-end-end.result in
+    let e : ℕ = c.group_end-end.result in
     let p : ℕ = c.args.p in
     let q : ℕ = c.args.q in
     let even : j * q ≡ i * p = c.loop-given.invariant.2 c.loop-given-test.true in
@@ -50,7 +50,7 @@ loop-given-preserved c =
     let in' : e ≤ length out = omega arith in
     let m : length (take (e - j) (drop j out)) ≡ e - j = length-take-le (e - j) (drop j out) (simp length-drop (omega arith)) in
     let l : length (put_mid j (e - j) out c.spread.new.out) ≡ length out = length-put_mid j (e - j) out c.spread.new.out (c.spread.auto.out ∙ m) (omega arith) in
-    let t = turn_counts i j e (length out) p q even c.group-end-end.ensures in (
+    let t = turn_counts i j e (length out) p q even c.group_end-end.ensures in (
       omega arith,
       t.0,
       (λ h. t.1 (omega arith)),

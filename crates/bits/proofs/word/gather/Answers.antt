@@ -12,13 +12,13 @@ pub join-acc-requires : goal.join-acc-requires
 join-acc-requires c = record {
   few = omega (arith, c.requires.word, add-mul c.loop-t.t 1 c.args.width, mul-le (c.loop-t.t + 1) c.args.width c.args.count c.args.width (omega arith) (omega arith));
   holds = c.loop-t.invariant.0;
-  fits = subst (λ n. n < 2 ^ c.args.width) (sym c.at-or-zero.ensures) (fit_get c.args.width c.args.src.now (c.args.at + c.loop-t.t) c.requires.fit);
+  fits = subst (λ n. n < 2 ^ c.args.width) (sym c.at_or_zero.ensures) (fit_get c.args.width c.args.src.now (c.args.at + c.loop-t.t) c.requires.fit);
 }
 
 pub loop-t-preserved : goal.loop-t-preserved
 loop-t-preserved c =
-    gathered_more c.args.order c.args.width (drop c.args.at c.args.src.now) c.loop-t.t c.loop-t.acc c.at-or-zero.result c.join-acc.result
-    c.loop-t.invariant.1 (c.at-or-zero.ensures ∙ sym (get_or-drop c.args.at c.args.src.now c.loop-t.t 0)) c.join-acc.ensures.small c.join-acc.ensures.bits
+    gathered_more c.args.order c.args.width (drop c.args.at c.args.src.now) c.loop-t.t c.loop-t.acc c.at_or_zero.result c.join-acc.result
+    c.loop-t.invariant.1 (c.at_or_zero.ensures ∙ sym (get_or-drop c.args.at c.args.src.now c.loop-t.t 0)) c.join-acc.ensures.small c.join-acc.ensures.bits
 
 pub returns : goal.returns
 returns c =

@@ -4,8 +4,8 @@ use Rattle.std.proofs.lemmas.Nat.{shr_below}
 use Rattle.bits.proofs.Words.{parted_least, parted_most}
 use Rattle.bits.proofs.word.part.Goals as goal
 
-pub overflow-cast-result-in-MostFirst-2 : goal.overflow-cast-result-in-MostFirst-2
-overflow-cast-result-in-MostFirst-2 c =
+pub overflow_cast-result-in-MostFirst-2 : goal.overflow_cast-result-in-MostFirst-2
+overflow_cast-result-in-MostFirst-2 c =
     let a = c.args.acc in
     let h = c.args.held in
     let w = c.args.width in

@@ -28,5 +28,5 @@ returns c =
     spread_all c.args.order c.args.width c.args.held c.args.acc c.loop-t.out c.loop-t.t c.loop-t.bits c.loop-t.left c.loop-t.invariant (omega arith)
     ∙ ap (λ n. cut c.args.order c.args.width n (bits_of c.args.order c.args.held c.args.acc)) l
 
-pub overflow-sub-bits : goal.overflow-sub-bits
-overflow-sub-bits c = omega (arith, c.loop-t.invariant.1, c.requires.there, add-mul c.loop-t.t 1 c.args.width, mul-le (c.loop-t.t + 1) c.args.width (length c.args.out.now) c.args.width (omega arith) (omega arith))
+pub overflow_sub-bits : goal.overflow_sub-bits
+overflow_sub-bits c = omega (arith, c.loop-t.invariant.1, c.requires.there, add-mul c.loop-t.t 1 c.args.width, mul-le (c.loop-t.t + 1) c.args.width (length c.args.out.now) c.args.width (omega arith) (omega arith))

@@ -6,7 +6,7 @@ use Rattle.byte_vectors.proofs.examples.examples_stand.Goals as goal
 pub returns : goal.returns
 unfolding chars encode
 returns c = record {
-  value = c.longer-decimal.ensures;
+  value = c.longer_decimal.ensures;
   examples = record {
     longer_decimal = refl;
     same_decimal = refl;

@@ -18,7 +18,7 @@ loop-i-init g c =
     let m = g.K.Kind.meaning in
     let vs : List (List ℕ) = map g.V.ValueOf.bytes c.args.values.now in
     let some : 0 < length vs = omega (arith, length-map c.args.values.now g.V.ValueOf.bytes) in
-    subst (λ n. Seen m vs 1 0 0 n) (sym c.nan-place-nan-count.ensures) (seen_first m vs some)
+    subst (λ n. Seen m vs 1 0 0 n) (sym c.nan_place-nan_count.ensures) (seen_first m vs some)
 
 pub loop-i-preserved : goal.loop-i-preserved
 loop-i-preserved g c =
@@ -27,13 +27,13 @@ loop-i-preserved g c =
     let i = c.loop-i.i in
     let n = c.loop-i.nan_count_of in
     let here : i < length vs = omega (arith, length-map c.args.values.now g.V.ValueOf.bytes) in
-    let lo = c.min-place-min.ensures in
-    let hi = c.max-place-max.ensures in
-    let more = c.nan-place-nan-count-in-loop-i.ensures in
+    let lo = c.min_place-min.ensures in
+    let hi = c.max_place-max.ensures in
+    let more = c.nan_place-nan_count-in-loop-i.ensures in
     let s : Seen m vs (i + 1) (lower_place m vs c.loop-i.min i) (higher_place m vs c.loop-i.max i) (n + nan_at m vs i) =
     seen_more m vs i c.loop-i.min c.loop-i.max n here c.loop-i.invariant in
-    subst (λ k. Seen m vs (i + 1) k c.max-place-max.result (n + c.nan-place-nan-count-in-loop-i.result)) (sym lo)
-    (subst (λ k. Seen m vs (i + 1) (lower_place m vs c.loop-i.min i) k (n + c.nan-place-nan-count-in-loop-i.result)) (sym hi)
+    subst (λ k. Seen m vs (i + 1) k c.max_place-max.result (n + c.nan_place-nan_count-in-loop-i.result)) (sym lo)
+    (subst (λ k. Seen m vs (i + 1) (lower_place m vs c.loop-i.min i) k (n + c.nan_place-nan_count-in-loop-i.result)) (sym hi)
     (subst (λ k. Seen m vs (i + 1) (lower_place m vs c.loop-i.min i) (higher_place m vs c.loop-i.max i) (n + k)) (sym more) s))
 
 pub returns : goal.returns

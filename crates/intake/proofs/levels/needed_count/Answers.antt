@@ -4,4 +4,4 @@ use Rattle.intake.proofs.Needed.{needed_is}
 use Rattle.intake.proofs.levels.needed_count.Goals as goal
 
 pub returns : goal.returns
-returns c = c.count-at.ensures ∙ needed_is c.args.max c.args.count (levels_of c.args.levels)
+returns c = c.count_at.ensures ∙ needed_is c.args.max c.args.count (levels_of c.args.levels)

@@ -24,7 +24,7 @@ loop-i-preserved g c =
     let lt : i < length vs = omega (arith, length-map c.args.values.now g.V.ValueOf.bytes) in
     let e = read_bytes g.V.ValueOf.bytes c.args.values.now i c.index-values-i.result c.loop-i-test.true c.index-values-i.is in
     let s : sized w (get_or vs i []) ≡ true = ap (sized w) (sym e) ∙ c.in-Some.ensures.0 in (
-      omega (arith, c.saturating-add-sum.ensures, c.loop-i.invariant.0, plains-more w vs i lt, c.in-Some.ensures.1, ap (λ v. length (plain w v)) e),
+      omega (arith, c.saturating_add-sum.ensures, c.loop-i.invariant.0, plains-more w vs i lt, c.in-Some.ensures.1, ap (λ v. length (plain w v)) e),
       omega (arith, c.loop-i.invariant.1, prefix_len-drop_yes (sized w) vs i [] lt s),
     )
 

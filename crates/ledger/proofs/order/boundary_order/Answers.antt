@@ -5,6 +5,6 @@ use Rattle.ledger.proofs.order.boundary_order.Goals as goal
 
 pub returns : goal.returns
 returns c = record {
-  value = c.boundary-number.ensures;
-  says = λ m cut ps f. subst (λ n. BoundaryOrder m cut ps n) (sym c.boundary-number.ensures) (boundary_says m cut ps c.args.ascending c.args.descending f);
+  value = c.boundary_number.ensures;
+  says = λ m cut ps f. subst (λ n. BoundaryOrder m cut ps n) (sym c.boundary_number.ensures) (boundary_says m cut ps c.args.ascending c.args.descending f);
 }

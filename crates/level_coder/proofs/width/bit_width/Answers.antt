@@ -19,4 +19,4 @@ length_is a r h e =
     }
 
 pub returns : goal.returns
-returns c = length_is c.args.max c.bits-behind.result c.ranges.max.fits c.bits-behind.ensures
+returns c = length_is c.args.max c.bits_behind.result c.ranges.max.fits c.bits_behind.ensures

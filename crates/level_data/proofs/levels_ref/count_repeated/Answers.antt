@@ -4,14 +4,14 @@ use Rattle.level_data.specs.Levels.{same}
 use Rattle.level_data.proofs.Repeats.{count_repeated_yes, count_repeated_no}
 use Rattle.level_data.proofs.levels_ref.count_repeated.Goals as goal
 
-pub returns-then-is-same : goal.returns-then-is-same
-returns-then-is-same c =
+pub returns-then-is_same : goal.returns-then-is_same
+returns-then-is_same c =
     sym (count_repeated_yes (same c.args.level) c.args.count c.args.value
     (ap (λ l. same l c.args.value) (sym (to_z-of_z w16 c.args.level c.ranges.level)) ∙ ap (same (to_z w16 (of_z w16 c.args.level))) (sym (to_z-of_z w16 c.args.value c.ranges.value))
-    ∙ sym c.is-same.ensures ∙ c.if-is-same.true))
+    ∙ sym c.is_same.ensures ∙ c.if-is_same.true))
 
-pub returns-else-is-same : goal.returns-else-is-same
-returns-else-is-same c =
+pub returns-else-is_same : goal.returns-else-is_same
+returns-else-is_same c =
     sym (count_repeated_no (same c.args.level) c.args.count c.args.value
     (ap (λ l. same l c.args.value) (sym (to_z-of_z w16 c.args.level c.ranges.level)) ∙ ap (same (to_z w16 (of_z w16 c.args.level))) (sym (to_z-of_z w16 c.args.value c.ranges.value))
-    ∙ sym c.is-same.ensures ∙ c.if-is-same.false))
+    ∙ sym c.is_same.ensures ∙ c.if-is_same.false))

@@ -7,6 +7,6 @@ returns-then-v-lt128 c = record { bytes = sym (uleb-one c.args.v (omega arith));
 
 pub returns-else-v-lt128 : goal.returns-else-v-lt128
 returns-else-v-lt128 c = record {
-  bytes = ap (λ x. x ∷ c.args.v / 128 ∷ []) c.low-byte.ensures ∙ sym (uleb-two c.args.v (omega arith) (omega arith));
+  bytes = ap (λ x. x ∷ c.args.v / 128 ∷ []) c.low_byte.ensures ∙ sym (uleb-two c.args.v (omega arith) (omega arith));
   len = omega arith;
 }

@@ -20,11 +20,11 @@ returns-then-bytes-size c = (
   (λ _ ls s. omega (arith, starts_long c.args.order c.args.front.now c.args.k c.args.b c.args.n c.args.bytes.now ls s)),
 )
 
-pub returns-then-not-starts-with : goal.returns-then-not-starts-with
-returns-then-not-starts-with c = (
+pub returns-then-not-starts_with : goal.returns-then-not-starts_with
+returns-then-not-starts_with c = (
   refl,
-  (λ _ ls s. both_ways c.starts-with.result c.if-not-starts-with.true
-      ((starts_is Decides-eqb c.args.bytes.now c.args.front.now c.starts-with.result c.starts-with.ensures.value).1 _
+  (λ _ ls s. both_ways c.starts_with.result c.if-not-starts_with.true
+      ((starts_is Decides-eqb c.args.bytes.now c.args.front.now c.starts_with.result c.starts_with.ensures.value).1 _
       (starts_front c.args.order c.args.front.now c.args.k c.args.b c.args.n c.args.bytes.now ls s))),
 )
 
@@ -52,7 +52,7 @@ returns c =
         c.unpack.new.levels,
         starts_from c.args.order c.args.front.now c.args.k c.args.b c.args.n c.args.bytes.now c.unpack.new.levels _ (omega arith) (omega arith)
             (c.unpack.auto.levels ∙ m) c.if-not-unpack.ensures.1
-            ((starts_is Decides-eqb c.args.bytes.now c.args.front.now c.starts-with.result c.starts-with.ensures.value).0 c.if-not-starts-with.false) c.if-not-unpack.ensures.2,
+            ((starts_is Decides-eqb c.args.bytes.now c.args.front.now c.starts_with.result c.starts_with.ensures.value).0 c.if-not-starts_with.false) c.if-not-unpack.ensures.2,
         ap (λ i. c.unpack.new.levels ++ drop i c.args.levels.now) z,
       ),
     )

@@ -23,6 +23,6 @@ returns c =
       refl,
       c.if-not-pack.ensures.1,
       omega arith,
-      in_front c.args.front.now (packed c.args.order c.args.b c.args.k c.args.levels.now) c.args.out.now c.pack.new.out c.copy-from-slice.new.self _ c.args.k _ (omega arith) (omega arith) (omega arith)
-          (c.if-not-pack.ensures.2 ∙ ap (λ m. packed c.args.order c.args.b m c.args.levels.now) l) c.copy-from-slice.ensures.after,
+      in_front c.args.front.now (packed c.args.order c.args.b c.args.k c.args.levels.now) c.args.out.now c.pack.new.out c.copy_from_slice.new.self _ c.args.k _ (omega arith) (omega arith) (omega arith)
+          (c.if-not-pack.ensures.2 ∙ ap (λ m. packed c.args.order c.args.b m c.args.levels.now) l) c.copy_from_slice.ensures.after,
     )

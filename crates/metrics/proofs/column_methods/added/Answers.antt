@@ -18,5 +18,5 @@ returns-in-Some-before c most xs ys few ex ey =
     let more = counted c.in-Some.more in
     let ox = sym (ap shown c.in-Some-before.is) ∙ ex in
     let my = sym (ap shown c.in-Some.is) ∙ ey in
-    counts_from most xs (xs ++ ys) old (counted c.add-histogram.new.self) ox
-    (c.add-histogram.ensures.joined (suc most) xs ys few (counts_there most xs old ox) (counts_there most ys more my))
+    counts_from most xs (xs ++ ys) old (counted c.add_histogram.new.self) ox
+    (c.add_histogram.ensures.joined (suc most) xs ys few (counts_there most xs old ox) (counts_there most ys more my))

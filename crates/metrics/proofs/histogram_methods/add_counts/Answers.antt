@@ -12,8 +12,8 @@ loop-i-preserved c =
       below_more _ _
           (λ k h. let ne : k ≢ i = omega arith in get_or-set_other cs i k r 0 ne ∙ inv.1 k h)
           (get_or-set_same cs i r 0 (omega (arith, inv.0, c.loop-i-test.true)) ∙ c.sum.ensures
-          ∙ ap (λ v. min (v + c.count-at.result) (2 ^ 64 - 1)) (inv.2 i (omega arith))
-          ∙ ap (λ v. min (get_or c.args.all.now i 0 + v) (2 ^ 64 - 1)) c.count-at.ensures),
+          ∙ ap (λ v. min (v + c.count_at.result) (2 ^ 64 - 1)) (inv.2 i (omega arith))
+          ∙ ap (λ v. min (get_or c.args.all.now i 0 + v) (2 ^ 64 - 1)) c.count_at.ensures),
       λ k h. let ne : k ≢ i = omega arith in get_or-set_other cs i k r 0 ne ∙ inv.2 k (omega arith),
     )
 

@@ -14,24 +14,24 @@ returns-then-max-eq0 g c =
       after = sym (ap (λ x. take a old ++ (x ++ drop a old)) (part_none coding c.args.version c.args.max c.args.levels.now z) ∙ take-append-drop a old);
     }
 
-pub framed-at-requires : goal.framed-at-requires
-framed-at-requires g c = (
-  admitted c.args.max c.level-width.result c.args.levels.now c.level-width.ensures c.requires.fits,
+pub framed_at-requires : goal.framed_at-requires
+framed_at-requires g c = (
+  admitted c.args.max c.level_width.result c.args.levels.now c.level_width.ensures c.requires.fits,
   omega (
     arith,
     c.requires.room,
-    ap (g.L.LevelCoder.coding.size (length c.args.levels.now)) c.level-width.ensures,
-    size-some g.L.LevelCoder.coding c.args.version c.args.max (length c.args.levels.now) true c.if-max-eq0.false c.if-has-length.ensures,
+    ap (g.L.LevelCoder.coding.size (length c.args.levels.now)) c.level_width.ensures,
+    size-some g.L.LevelCoder.coding c.args.version c.args.max (length c.args.levels.now) true c.if-max-eq0.false c.if-has_length.ensures,
   ),
 )
 
-pub bare-at-requires : goal.bare-at-requires
-bare-at-requires g c = (
-  admitted c.args.max c.level-width-2.result c.args.levels.now c.level-width-2.ensures c.requires.fits,
+pub bare_at-requires : goal.bare_at-requires
+bare_at-requires g c = (
+  admitted c.args.max c.level_width-2.result c.args.levels.now c.level_width-2.ensures c.requires.fits,
   omega (
     arith,
     c.requires.room,
-    ap (g.L.LevelCoder.coding.size (length c.args.levels.now)) c.level-width-2.ensures,
-    size-some g.L.LevelCoder.coding c.args.version c.args.max (length c.args.levels.now) false c.if-max-eq0.false c.if-has-length.ensures,
+    ap (g.L.LevelCoder.coding.size (length c.args.levels.now)) c.level_width-2.ensures,
+    size-some g.L.LevelCoder.coding c.args.version c.args.max (length c.args.levels.now) false c.if-max-eq0.false c.if-has_length.ensures,
   ),
 )

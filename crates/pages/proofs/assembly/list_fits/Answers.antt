@@ -13,4 +13,4 @@ told most limit ls false few narrow e d = λ f.
 
 pub returns : goal.returns
 returns c =
-    told c.args.max c.level-limit.result c.args.levels.now c.all-below.result (omega arith) (omega arith) c.level-limit.ensures c.all-below.ensures
+    told c.args.max c.level_limit.result c.args.levels.now c.all_below.result (omega arith) (omega arith) c.level_limit.ensures c.all_below.ensures

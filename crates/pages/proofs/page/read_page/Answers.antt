@@ -2,13 +2,13 @@ use Rattle.std.proofs.Common.{Some, None, refl}
 use Rattle.pages.proofs.Unique.{reads_back}
 use Rattle.pages.proofs.page.read_page.Goals as goal
 
-pub returns-in-default : goal.returns-in-default
-returns-in-default g c =
-    let read = c.in-default.ensures in
+pub returns-in_default : goal.returns-in_default
+returns-in_default g c =
+    let read = c.in_default.ensures in
     record {
       read = read;
       back = reads_back g.L.LevelCoder.coding g.B.BodyCoder.body c.args.layout c.args.n c.args.page.now c.args.reps.now c.args.defs.now c.args.plain.now
-          c.read-parts.new.reps c.read-parts.new.defs c.read-parts.new.plain None read;
+          c.read_parts.new.reps c.read_parts.new.defs c.read_parts.new.plain None read;
       counts = tt;
     }
 
@@ -18,6 +18,6 @@ returns g c =
     record {
       read = read;
       back = reads_back g.L.LevelCoder.coding g.B.BodyCoder.body c.args.layout c.args.n c.args.page.now c.args.reps.now c.args.defs.now c.args.plain.now
-          c.read-parts.new.reps c.read-parts.new.defs c.read-parts.new.plain (Some c.in-Some.bytes) read;
-      counts = (refl, c.value-count.ensures);
+          c.read_parts.new.reps c.read_parts.new.defs c.read_parts.new.plain (Some c.in-Some.bytes) read;
+      counts = (refl, c.value_count.ensures);
     }

@@ -9,5 +9,5 @@ returns c =
     let a = c.args.at in
     let old = c.args.out.now in
     let k = a + 4 - a in
-    ap (λ y. take a old ++ (y ++ post_of a k old)) c.copy-from-slice.ensures.after
+    ap (λ y. take a old ++ (y ++ post_of a k old)) c.copy_from_slice.ensures.after
     ∙ ap (λ z. take a old ++ (four c.args.n ++ z)) (drop-drop k a old ∙ ap (λ n. drop n old) (omega arith))

@@ -8,7 +8,7 @@ pub returns-in-Some-read : goal.returns-in-Some-read
 returns-in-Some-read g c =
     let bytes = c.args.bytes.now in
     framed_some g.L.LevelCoder.coding c.args.b c.args.n bytes c.args.levels.now (take (length bytes - 4) (drop 4 bytes)) c.read.new.levels c.in-Some-read.k
-    (take_rest bytes 4) (omega arith) (subst (StartsWith bytes) c.in-Some.ensures.0 (c.if-not-starts-with.ensures.0 refl)) c.in-Some-read.ensures
+    (take_rest bytes 4) (omega arith) (subst (StartsWith bytes) c.in-Some.ensures.0 (c.if-not-starts_with.ensures.0 refl)) c.in-Some-read.ensures
 
 pub returns-in-None : goal.returns-in-None
 returns-in-None g c =

@@ -3,8 +3,8 @@ use Rattle.sinks_tests.proofs.two.write_two.Goals as goal
 
 pub returns : goal.returns
 returns g c =
-    let one = c.in-ok-write.ensures in
-    let two = c.in-ok-write-2.ensures in (
+    let one = c.in_ok-write.ensures in
+    let two = c.in_ok-write-2.ensures in (
       one.0,
       λ sound.
           let first = one.1 sound in

@@ -15,21 +15,21 @@ stream_in i j n k m hi hj le = omega (arith, mul-add-lt j n i k hj hi)
 pub loop-j-init : goal.loop-j-init
 loop-j-init c = written_none _ _ _ _
 
-pub value-place-from-requires : goal.value-place-from-requires
-value-place-from-requires c =
+pub value_place-from-requires : goal.value_place-from-requires
+value_place-from-requires c =
     let h = value_in c.loop-i.i c.loop-j.j c.args.n c.args.k (length c.args.values.now) (omega arith) (omega arith) c.requires.there in omega arith
 
-pub stream-place-to-requires : goal.stream-place-to-requires
-stream-place-to-requires c =
+pub stream_place-to-requires : goal.stream_place-to-requires
+stream_place-to-requires c =
     let h = stream_in c.loop-i.i c.loop-j.j c.args.n c.args.k (length c.args.values.now) (omega arith) (omega arith) c.requires.there in omega arith
 
 pub bounds-values-from : goal.bounds-values-from
 bounds-values-from c =
-    let h = value_in c.loop-i.i c.loop-j.j c.args.n c.args.k (length c.args.values.now) (omega arith) (omega arith) c.requires.there in omega (arith, c.value-place-from.ensures)
+    let h = value_in c.loop-i.i c.loop-j.j c.args.n c.args.k (length c.args.values.now) (omega arith) (omega arith) c.requires.there in omega (arith, c.value_place-from.ensures)
 
 pub bounds-out-to : goal.bounds-out-to
 bounds-out-to c =
-    let h = stream_in c.loop-i.i c.loop-j.j c.args.n c.args.k (length c.args.out.now) (omega arith) (omega arith) c.requires.room in omega (arith, c.stream-place-to.ensures)
+    let h = stream_in c.loop-i.i c.loop-j.j c.args.n c.args.k (length c.args.out.now) (omega arith) (omega arith) c.requires.room in omega (arith, c.stream_place-to.ensures)
 
 pub loop-i-preserved : goal.loop-i-preserved
 loop-i-preserved c =
@@ -37,10 +37,10 @@ loop-i-preserved c =
     let k = c.args.k in
     let i = c.loop-i.i in
     let j = c.loop-j.j in
-    let v : ℕ = get_or c.args.values.now c.value-place-from.result 0 in
-    subst (λ p. Written n k c.args.values.now c.loop-j.out (set c.loop-i.out p v) j (i + 1)) (sym c.stream-place-to.ensures)
+    let v : ℕ = get_or c.args.values.now c.value_place-from.result 0 in
+    subst (λ p. Written n k c.args.values.now c.loop-j.out (set c.loop-i.out p v) j (i + 1)) (sym c.stream_place-to.ensures)
     (written-more n k c.args.values.now c.loop-j.out c.loop-i.out i j v c.loop-i.invariant (omega arith) (omega arith) (omega arith)
-    (ap (λ p. get_or c.args.values.now p 0) c.value-place-from.ensures))
+    (ap (λ p. get_or c.args.values.now p 0) c.value_place-from.ensures))
 
 pub loop-j-preserved : goal.loop-j-preserved
 loop-j-preserved c = written_next _ _ _ _ _ _ c.loop-i.i _ c.loop-j.invariant c.loop-i.invariant (omega arith)

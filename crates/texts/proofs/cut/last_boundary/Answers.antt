@@ -10,18 +10,18 @@ use Rattle.texts.proofs.cut.last_boundary.Goals as goal
 pub loop-split-init : goal.loop-split-init
 loop-split-init c = (omega arith, λ k h u. h)
 
-pub returns-then-is-lead : goal.returns-then-is-lead
-returns-then-is-lead c =
+pub returns-then-is_lead : goal.returns-then-is_lead
+returns-then-is_lead c =
     let v = c.args.value.now in
     let m = c.loop-split.split in
-    let lead = ltb-true 0 (lead_length_of (get_or v m 0)) (sym c.is-lead.ensures ∙ c.if-is-lead.true) in
+    let lead = ltb-true 0 (lead_length_of (get_or v m 0)) (sym c.is_lead.ensures ∙ c.if-is_lead.true) in
     front_is c.args.length m v (omega arith) (IsUtf8-take v m c.requires.text (boundary_at v m (omega arith) lead)) c.loop-split.invariant.1
 
 pub loop-split-preserved : goal.loop-split-preserved
 loop-split-preserved c =
     let v = c.args.value.now in
     let m = c.loop-split.split in
-    let none = ltb-false 0 (lead_length_of (get_or v m 0)) (sym c.is-lead.ensures ∙ c.if-is-lead.false) in (
+    let none = ltb-false 0 (lead_length_of (get_or v m 0)) (sym c.is_lead.ensures ∙ c.if-is_lead.false) in (
       omega arith,
       λ k h u.
           ⊎_elim (λ s. omega arith)

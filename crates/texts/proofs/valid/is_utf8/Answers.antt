@@ -12,13 +12,13 @@ pub returns-then-n-eq0 : goal.returns-then-n-eq0
 returns-then-n-eq0 c =
     let b = c.args.bytes.now in
     let at = c.loop-at.at in
-    let n : c.char-length-n.result ≡ 0 = omega arith in
-    valid_no b (not_text b at (valid_to b at (omega arith) c.loop-at.invariant.1 (c.char-length-n.ensures.none n)))
+    let n : c.char_length-n.result ≡ 0 = omega arith in
+    valid_no b (not_text b at (valid_to b at (omega arith) c.loop-at.invariant.1 (c.char_length-n.ensures.none n)))
 
 pub loop-at-preserved : goal.loop-at-preserved
 loop-at-preserved c = (
-  c.char-length-n.ensures.few,
-  longer c.args.bytes.now c.loop-at.at c.char-length-n.result c.loop-at.invariant.1 c.char-length-n.ensures.text,
+  c.char_length-n.ensures.few,
+  longer c.args.bytes.now c.loop-at.at c.char_length-n.result c.loop-at.invariant.1 c.char_length-n.ensures.text,
 )
 
 pub returns : goal.returns

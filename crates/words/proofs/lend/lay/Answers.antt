@@ -5,5 +5,5 @@ use Rattle.words.proofs.lend.lay.Goals as goal
 
 pub returns : goal.returns
 returns c =
-    let same = c.copy-from-slice.ensures.after in
-    take_at c.copy-from-slice.new.self _ _ (ap length same) ∙ same
+    let same = c.copy_from_slice.ensures.after in
+    take_at c.copy_from_slice.new.self _ _ (ap length same) ∙ same

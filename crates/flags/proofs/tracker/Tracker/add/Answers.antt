@@ -11,9 +11,9 @@ returns g c ps t =
     record {
       last = sym (last_push ps p);
       ascending =
-          c.both-self.ensures ∙ ap (λ b. b && c.does-rise-up.result) t.ascending
-          ∙ ap (λ b. ascending m ps && b) (c.does-rise-up.ensures ∙ ap (λ o. goes_on (rises m) o p) t.last) ∙ sym (along_push (rises m) ps p);
+          c.both-self.ensures ∙ ap (λ b. b && c.does_rise-up.result) t.ascending
+          ∙ ap (λ b. ascending m ps && b) (c.does_rise-up.ensures ∙ ap (λ o. goes_on (rises m) o p) t.last) ∙ sym (along_push (rises m) ps p);
       descending =
-          c.both-self-2.ensures ∙ ap (λ b. b && c.does-fall-down.result) t.descending
-          ∙ ap (λ b. descending m ps && b) (c.does-fall-down.ensures ∙ ap (λ o. goes_on (falls m) o p) t.last) ∙ sym (along_push (falls m) ps p);
+          c.both-self-2.ensures ∙ ap (λ b. b && c.does_fall-down.result) t.descending
+          ∙ ap (λ b. descending m ps && b) (c.does_fall-down.ensures ∙ ap (λ o. goes_on (falls m) o p) t.last) ∙ sym (along_push (falls m) ps p);
     }

@@ -18,7 +18,7 @@ returns g c l p q n few-reps few-defs few-values fits t u lo hi =
       nulls = sum-joined (λ d. not (eqb most d)) p.defs q.defs _ _ _ (omega arith) t.nulls u.nulls c.sum-self-4.ensures;
       nans =
           nans_joined m p.values q.values _ _ _ few-values t.nans
-          (c.nans-in.ensures ∙ ap (λ o. unwrap_or o 0) u.nans ∙ entry_value m q.values) c.sum-self-5.ensures;
+          (c.nans_in.ensures ∙ ap (λ o. unwrap_or o 0) u.nans ∙ entry_value m q.values) c.sum-self-5.ensures;
       reps = c.added-self.ensures l.max_rep_level p.reps q.reps (omega arith) t.reps u.reps;
       defs = c.added-self-2.ensures most p.defs q.defs (omega arith) t.defs u.defs;
       min =

@@ -6,6 +6,6 @@ pub returns : goal.returns
 returns c =
     let s = c.args.self.now in
     record {
-      offset = found_offset (places s) c.args.k c.pair-of.result c.pair-of.ensures;
-      page = found_page s.area.now (places s) c.args.k c.pair-of.result c.pair-of.ensures;
+      offset = found_offset (places s) c.args.k c.pair_of.result c.pair_of.ensures;
+      page = found_page s.area.now (places s) c.args.k c.pair_of.result c.pair_of.ensures;
     }
