@@ -18,7 +18,7 @@ DECLARED = re.compile(
     r"(?m)^[ \t]*(?:abbrev |unfoldable |pub |record |data )*(?P<name>[^\s:(){}.;,]+)"
     r"(?:[ \t]+(?:\{[^{}\n]*\}|\((?:[^()\n]|\([^()\n]*\))*\)))*[ \t]*:(?![:=])[ \t]*(?P<type>[^\n]*)"
 )
-CLAUSE = re.compile(r"(?:requires|ensures|ghost|law)\s*\*?\s*(?:\w+\s*:?\s*)?\{")
+CLAUSE = re.compile(r"(?:requires|ensures|ghost|law)\s*\*?\s*(?:\w+\s*[:=]?\s*)?\{")
 GHOST_USE = re.compile(r"ghost\s+use\b[^;]*;")
 HEADS = ("c", "w", "l", "g", "goal")
 # Functions of std and of the logic whose names a lemma's name is put together from.

@@ -8,7 +8,7 @@ use splits::scatter;
 pub struct Split;
 
 impl BodyCoder for Split {
-    ghost body = { split-body };
+    ghost body = { split_body };
 
     const ENCODING: u8 = 9;
 

@@ -19,7 +19,7 @@ fn byte_count(n: usize, b: u32) -> usize
 }
 
 impl LevelCoder for Legacy {
-    ghost coding = { legacy-coding };
+    ghost coding = { legacy_coding };
 
     const ENCODING: u8 = 4;
 

@@ -20,7 +20,7 @@ fn groups_len(n: usize, b: u32) -> usize
 }
 
 impl LevelCoder for Packed {
-    ghost coding = { packed-coding };
+    ghost coding = { packed_coding };
 
     const ENCODING: u8 = 3;
 

@@ -27,7 +27,7 @@ impl<'a> PackedSink<'a> {
 }
 
 impl<'a> PageStore for PackedSink<'a> {
-    ghost meaning = { packed-store };
+    ghost meaning = { packed_store };
 
     fn count(&self) -> usize {
         self.filled()

@@ -30,7 +30,7 @@ impl<'a> PackedSink<'a> {
 }
 
 impl<'a> PageSink for PackedSink<'a> {
-    ghost meaning = { packed-sink };
+    ghost meaning = { packed_sink };
 
     fn takes(&self, len: usize) -> Result<(), SinkFault> {
         if self.has_room(len) {

@@ -28,7 +28,7 @@ impl<'a> SlottedSink<'a> {
 }
 
 impl<'a> PageStore for SlottedSink<'a> {
-    ghost meaning = { slotted-store };
+    ghost meaning = { slotted_store };
 
     fn count(&self) -> usize {
         self.filled()

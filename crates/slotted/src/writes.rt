@@ -44,7 +44,7 @@ impl<'a> SlottedSink<'a> {
 }
 
 impl<'a> PageSink for SlottedSink<'a> {
-    ghost meaning = { slotted-sink };
+    ghost meaning = { slotted_sink };
 
     fn takes(&self, len: usize) -> Result<(), SinkFault> {
         if self.has_room(len) {

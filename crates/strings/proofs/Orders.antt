@@ -1,7 +1,7 @@
 -- The lexicographic order: as a relation, by which its laws are matches, and as `>` on slices answers it.
-use Rattle.std.proofs.Common.{◌≡◌, ℕ, zero, suc, ◌+◌, ◌<◌, ◌≤◌, Bool, true, false, cond, eqb, ltb, ◌⊎◌, List, [], ◌∷◌, ◌++◌, length, take, IsSomeAnd, sym, refl, ap, ◌∙◌, inl, inr, ⊎_elim, true≢false, arith}
-use Rattle.std.specs.Ordering.{MatchOrdering, Tested, is_gt, nat_cmp}
-use Rattle.std.specs.Cmp.Lexicographic.{LexSome}
+use Rattle.std.proofs.Common.{◌≡◌, ℕ, zero, suc, ◌+◌, ◌<◌, ◌≤◌, Bool, true, false, cond, eqb, ltb, ◌⊎◌, List, [], ◌∷◌, ◌++◌, length, take, Some, sym, refl, ap, ◌∙◌, inl, inr, ⊎_elim, true≢false, arith}
+use Rattle.std.specs.Ordering.{is_gt, is_some_and, nat_cmp}
+use Rattle.std.specs.Cmp.Lexicographic.{slice_partial_cmp}
 use Rattle.std.proofs.lemmas.Cmp.{same_from_slice_cmp_tested}
 use Rattle.std.proofs.lemmas.Bool.{cases_order, cases_lt, cases_Bool, false≢true}
 use Rattle.std.proofs.lemmas.Bool.Decides.{nat_tests}
@@ -74,6 +74,6 @@ above-longer (x ∷ a) (y ∷ b) c e (inr h) = inr (h.0, above-longer a b c (ome
 
 -- ---- `>` on slices
 
-pub answers_above : (a b : List ℕ) (r : Bool) → Tested (LexSome (λ x y o. IsSomeAnd o (λ k. MatchOrdering k (x < y) (x ≡ y) (y < x))) a b) is_gt r → r ≡ above a b
+pub answers_above : (a b : List ℕ) (r : Bool) → r ≡ is_some_and is_gt (slice_partial_cmp (λ x y. Some (nat_cmp x y)) a b) → r ≡ above a b
 answers_above a b r h =
     same_from_slice_cmp_tested nat_cmp is_gt above refl (λ _ _. refl) (λ _ _. refl) (λ x y a b o h. grind (arith, nat_tests)) a b r h
