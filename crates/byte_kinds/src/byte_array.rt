@@ -7,7 +7,7 @@ use kinds::{Descriptor, Kind, PhysicalType, ValueOf};
 pub struct ByteArray;
 
 impl Kind for ByteArray {
-    ghost meaning = { byte-array };
+    ghost meaning = { byte_array };
 
     const NUMBER: u8 = 8;
 

@@ -7,7 +7,7 @@ use kinds::{Descriptor, Kind, PhysicalType, ValueOf};
 pub struct DecimalByteArray;
 
 impl Kind for DecimalByteArray {
-    ghost meaning = { decimal-byte-array };
+    ghost meaning = { decimal_byte_array };
 
     const NUMBER: u8 = 11;
 

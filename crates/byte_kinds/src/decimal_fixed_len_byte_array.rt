@@ -7,7 +7,7 @@ use kinds::{Descriptor, Kind, PhysicalType, ValueOf};
 pub struct DecimalFixedLenByteArray;
 
 impl Kind for DecimalFixedLenByteArray {
-    ghost meaning = { decimal-fixed-len-byte-array };
+    ghost meaning = { decimal_fixed_len_byte_array };
 
     const NUMBER: u8 = 12;
 

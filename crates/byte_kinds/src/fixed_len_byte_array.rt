@@ -7,7 +7,7 @@ use kinds::{Descriptor, Kind, PhysicalType, ValueOf};
 pub struct FixedLenByteArray;
 
 impl Kind for FixedLenByteArray {
-    ghost meaning = { fixed-len-byte-array };
+    ghost meaning = { fixed_len_byte_array };
 
     const NUMBER: u8 = 9;
 

@@ -7,7 +7,7 @@ use kinds::{Descriptor, Kind, PhysicalType, ValueOf};
 pub struct Utf8String;
 
 impl Kind for Utf8String {
-    ghost meaning = { utf8-string };
+    ghost meaning = { utf8_string };
 
     const NUMBER: u8 = 10;
 
