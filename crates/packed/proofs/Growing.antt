@@ -12,7 +12,7 @@ use Rattle.packed.specs.Packing.{places, end_in, usable, fits_in, magic, packed_
 use Rattle.packed.specs.declared.sink.PackedSink.{PackedSink}
 
 pub grown : (s s' : PackedSink) (page : List ℕ) (at : ℕ) → fits_in s (length page) ≡ true → at ≡ end_in s
-    → s'.table.now ≡ set s.table.s.count.now (record { offset = at; len = length page })
+    → s'.table.now ≡ set s.table.now s.count (record { offset = at; len = length page })
     → s'.area.now ≡ laid s.area.now at page → s'.count ≡ s.count + 1
     → Sound s → Grown packed_store packed_sink s page at s'
 grown s s' page at takes begin table area count sd =
@@ -23,7 +23,7 @@ grown s s' page at takes begin table area count sd =
     let tests = and_parts (ltb s.count (length s.table.now)) _ test.1 in
     let few = ltb-true s.count (length s.table.now) tests.0 in
     let room : at + length page ≤ length a = omega (arith, leb-true (end_in s + length page) (length a) tests.1) in
-    let more : places s' ≡ places s ++ (q ∷ []) = ap (λ n. take n s'.table.now) count ∙ ap (take (s.count + 1)) table ∙ take_more_set s.table.s.count.now q few in
+    let more : places s' ≡ places s ++ (q ∷ []) = ap (λ n. take n s'.table.now) count ∙ ap (take (s.count + 1)) table ∙ take_more_set s.table.now s.count q few in
     let same : take at a' ≡ take at a = ap (take at) area ∙ take-laid a at page room in
     let long : length a' ≡ length a = ap length area ∙ length-laid a at page room in
     let low = tiles_end 4 (places s) sd.tiled in
@@ -33,7 +33,7 @@ grown s s' page at takes begin table area count sd =
       pages = ap (map (part a')) more ∙ pages-more a a' 4 (places s) q page sd.tiled (subst (λ k. take k a' ≡ take k a) begin same) (ap (part' q) area ∙ middle_laid a at page room);
       offsets = ap (map offset') more ∙ map_push offset' (places s) q;
       sound = record {
-        few = omega (arith, ap length table ∙ length-set s.table.s.count.now q);
+        few = omega (arith, ap length table ∙ length-set s.table.now s.count q);
         tiled = tiled;
         sorted = rises_from_tiles 4 (places s') tiled;
         begins = λ _. sym (take-take 4 at a' (omega arith)) ∙ ap (take 4) same ∙ take-take 4 at a (omega arith) ∙ sd.begins test.0;
