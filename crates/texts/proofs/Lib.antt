@@ -1,3 +1,4 @@
+pub mod Scalars
 pub mod Tables
 pub mod LeadBytes
 pub mod Fronts

@@ -3,7 +3,7 @@ use Rattle.std.proofs.Common.{◌≡◌, ℕ, zero, suc, ◌+◌, ◌-◌, ◌<�
 use lib.Utf8.{scalar, scalars, encode, encodes, scalar_cases}
 use Rattle.std.specs.Char.{len_utf8}
 use Rattle.std.specs.Str.{chars}
-use Rattle.std.proofs.str.Laws.{Shape, of1, of2, of3, of4, shape, both}
+use Rattle.texts.proofs.Scalars.{Shape, of_one, of_two, of_three, of_four, shape}
 use Rattle.std.proofs.lemmas.Bool.{cases_order, cases_Bool, cond-true, cond-false, eqb-true, and_parts, and_from}
 use Rattle.std.proofs.lemmas.Str.{length-encode, encodes-append, encodes-chars, scalars-chars, chars-append, chars-encodes, IsUtf8-take, IsCharBoundary-at_seam}
 use Rattle.std.proofs.lemmas.List.{take_at}
@@ -117,44 +117,44 @@ back_raise s rest t c u k e r b =
 -- ---- the order of characters of one length is that of their bytes
 
 above_shape : (c d : ℕ) → c < d → length (encode c) ≡ length (encode d) → Shape c → Shape d → Above (encode d) (encode c)
-above_shape c d l e (of1 h p) (of1 k q) = rw (p, q) (inl l)
-above_shape c d l e (of2 a b h1 h2 h3 h4 p) (of2 a' b' k1 k2 k3 k4 q) =
+above_shape c d l e (of_one p) (of_one q) = rw (p, q) (inl l)
+above_shape c d l e (of_two a b h1 h2 p) (of_two a' b' k1 k2 q) =
     rw (p, q) (⊎_elim (λ t. inr (t, inl (omega arith))) (⊎_elim (λ t. absurd (omega arith)) (λ t. inl t)) (cases_order a' a))
-above_shape c d l e (of3 a b x h1 h2 h3 h4 h5 p) (of3 a' b' x' k1 k2 k3 k4 k5 q) =
+above_shape c d l e (of_three a b x h1 h2 h3 p) (of_three a' b' x' k1 k2 k3 q) =
     rw (p, q) (⊎_elim (λ t. inr (t, ⊎_elim (λ s. inr (s, inl (omega arith))) (⊎_elim (λ s. absurd (omega arith)) (λ s. inl s)) (cases_order b' b)))
     (⊎_elim (λ t. absurd (omega arith)) (λ t. inl t)) (cases_order a' a))
-above_shape c d l e (of4 a b x y h1 h2 h3 h4 h5 h6 p) (of4 a' b' x' y' k1 k2 k3 k4 k5 k6 q) =
+above_shape c d l e (of_four a b x y h1 h2 h3 h4 p) (of_four a' b' x' y' k1 k2 k3 k4 q) =
     rw (p, q) (⊎_elim (λ t. inr (
       t,
       ⊎_elim (λ s. inr (s, ⊎_elim (λ u. inr (u, inl (omega arith))) (⊎_elim (λ u. absurd (omega arith)) (λ u. inl u)) (cases_order x' x)))
           (⊎_elim (λ s. absurd (omega arith)) (λ s. inl s)) (cases_order b' b),
     ))
     (⊎_elim (λ t. absurd (omega arith)) (λ t. inl t)) (cases_order a' a))
-above_shape c d l e (of1 h p) (of2 a' b' k1 k2 k3 k4 q) = absurd (omega (arith, ap length p, ap length q))
-above_shape c d l e (of1 h p) (of3 a' b' x' k1 k2 k3 k4 k5 q) = absurd (omega (arith, ap length p, ap length q))
-above_shape c d l e (of1 h p) (of4 a' b' x' y' k1 k2 k3 k4 k5 k6 q) = absurd (omega (arith, ap length p, ap length q))
-above_shape c d l e (of2 a b h1 h2 h3 h4 p) (of1 k q) = absurd (omega (arith, ap length p, ap length q))
-above_shape c d l e (of2 a b h1 h2 h3 h4 p) (of3 a' b' x' k1 k2 k3 k4 k5 q) = absurd (omega (arith, ap length p, ap length q))
-above_shape c d l e (of2 a b h1 h2 h3 h4 p) (of4 a' b' x' y' k1 k2 k3 k4 k5 k6 q) = absurd (omega (arith, ap length p, ap length q))
-above_shape c d l e (of3 a b x h1 h2 h3 h4 h5 p) (of1 k q) = absurd (omega (arith, ap length p, ap length q))
-above_shape c d l e (of3 a b x h1 h2 h3 h4 h5 p) (of2 a' b' k1 k2 k3 k4 q) = absurd (omega (arith, ap length p, ap length q))
-above_shape c d l e (of3 a b x h1 h2 h3 h4 h5 p) (of4 a' b' x' y' k1 k2 k3 k4 k5 k6 q) = absurd (omega (arith, ap length p, ap length q))
-above_shape c d l e (of4 a b x y h1 h2 h3 h4 h5 h6 p) (of1 k q) = absurd (omega (arith, ap length p, ap length q))
-above_shape c d l e (of4 a b x y h1 h2 h3 h4 h5 h6 p) (of2 a' b' k1 k2 k3 k4 q) = absurd (omega (arith, ap length p, ap length q))
-above_shape c d l e (of4 a b x y h1 h2 h3 h4 h5 h6 p) (of3 a' b' x' k1 k2 k3 k4 k5 q) = absurd (omega (arith, ap length p, ap length q))
+above_shape c d l e (of_one p) (of_two a' b' k1 k2 q) = absurd (omega (arith, ap length p, ap length q))
+above_shape c d l e (of_one p) (of_three a' b' x' k1 k2 k3 q) = absurd (omega (arith, ap length p, ap length q))
+above_shape c d l e (of_one p) (of_four a' b' x' y' k1 k2 k3 k4 q) = absurd (omega (arith, ap length p, ap length q))
+above_shape c d l e (of_two a b h1 h2 p) (of_one q) = absurd (omega (arith, ap length p, ap length q))
+above_shape c d l e (of_two a b h1 h2 p) (of_three a' b' x' k1 k2 k3 q) = absurd (omega (arith, ap length p, ap length q))
+above_shape c d l e (of_two a b h1 h2 p) (of_four a' b' x' y' k1 k2 k3 k4 q) = absurd (omega (arith, ap length p, ap length q))
+above_shape c d l e (of_three a b x h1 h2 h3 p) (of_one q) = absurd (omega (arith, ap length p, ap length q))
+above_shape c d l e (of_three a b x h1 h2 h3 p) (of_two a' b' k1 k2 q) = absurd (omega (arith, ap length p, ap length q))
+above_shape c d l e (of_three a b x h1 h2 h3 p) (of_four a' b' x' y' k1 k2 k3 k4 q) = absurd (omega (arith, ap length p, ap length q))
+above_shape c d l e (of_four a b x y h1 h2 h3 h4 p) (of_one q) = absurd (omega (arith, ap length p, ap length q))
+above_shape c d l e (of_four a b x y h1 h2 h3 h4 p) (of_two a' b' k1 k2 q) = absurd (omega (arith, ap length p, ap length q))
+above_shape c d l e (of_four a b x y h1 h2 h3 h4 p) (of_three a' b' x' k1 k2 k3 q) = absurd (omega (arith, ap length p, ap length q))
 
 above_char : (c d : ℕ) → c < d → scalar c ≡ true → scalar d ≡ true → len_utf8 d ≡ len_utf8 c → Above (encode d) (encode c)
 above_char c d l s t w =
-    above_shape c d l (length-encode c ∙ sym w ∙ sym (length-encode d)) (shape c (scalar_cases c s)) (shape d (scalar_cases d t))
+    above_shape c d l (length-encode c ∙ sym w ∙ sym (length-encode d)) (shape c) (shape d)
 
 scalar_amid : (bs : List ℕ) (c : ℕ) (ds : List ℕ) → scalars (bs ++ c ∷ ds) ≡ true → scalar c ≡ true
-scalar_amid [] c ds e = (both (scalar c) (scalars ds) e).0
-scalar_amid (b ∷ bs) c ds e = scalar_amid bs c ds (both (scalar b) (scalars (bs ++ c ∷ ds)) e).1
+scalar_amid [] c ds e = (and_parts (scalar c) (scalars ds) e).0
+scalar_amid (b ∷ bs) c ds e = scalar_amid bs c ds (and_parts (scalar b) (scalars (bs ++ c ∷ ds)) e).1
 
 scalars_end : (bs : List ℕ) (c d : ℕ) (ds : List ℕ) → scalars (bs ++ c ∷ ds) ≡ true → scalar d ≡ true → scalars (bs ++ d ∷ []) ≡ true
 scalars_end [] c d ds e s = and_from (scalar d) true s refl
 scalars_end (b ∷ bs) c d ds e s =
-    let p = both (scalar b) (scalars (bs ++ c ∷ ds)) e in
+    let p = and_parts (scalar b) (scalars (bs ++ c ∷ ds)) e in
     and_from (scalar b) (scalars (bs ++ d ∷ [])) p.0 (scalars_end bs c d ds p.1 s)
 
 module _ (t rs : List ℕ) (u : IsUtf8 t) (p : Parts (chars t) rs) where

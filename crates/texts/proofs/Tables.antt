@@ -1,33 +1,38 @@
 -- Text by the Unicode table is what the library's `Utf8` says, row by row, and what the test answers.
 use Rattle.std.proofs.Common.{◌≡◌, ℕ, zero, suc, ◌+◌, ◌-◌, ◌*◌, ◌/◌, ◌%◌, ◌<◌, ◌≤◌, Bool, true, false, ◌&&◌, eqb, ◌⊎◌, List, [], ◌∷◌, ◌++◌, length, get_or, take, drop, IsUtf8, sym, refl, ap, ◌∙◌, subst, inl, inr, ⊎_elim, arith}
 use lib.Utf8.{scalar, scalars, encode, encodes, next, scalar_cases}
-use Rattle.std.proofs.str.Laws as laws
 use Rattle.std.specs.Int.{IsInRange}
 use Rattle.std.specs.Str.{chars}
 use Rattle.std.proofs.lemmas.Str.{IsUtf8-append, IsUtf8-nil, encodes-chars, scalars-chars}
 use Rattle.std.proofs.lemmas.Bool.{cases_lt, cases_Bool, eqb-true, eq-eqb, and_parts, and_from, false≢true, true≢false}
-use Rattle.std.proofs.str.Laws.{Scalar, both}
-use Rattle.std.proofs.str.Valid.{of_one, of_two, of_three, of_four}
 use Rattle.texts.specs.Unicode.{Char, one, two, three_e0, three_low, three_ed, three_high, four_f0, four, four_f4, Text, none, more, same, is_text}
 use Rattle.texts.specs.Steps.{Valid}
+use Rattle.texts.proofs.Scalars.{Scalar, encode_one, encode_two, encode_three, encode_four, one_utf8, two_utf8, three_utf8, four_utf8}
 
 char_utf8 : (x : List ℕ) → Char x → IsUtf8 x
-char_utf8 _ (one a h) = of_one (a ∷ []) 0 (omega arith) (omega arith)
-char_utf8 _ (two a b h k) = of_two (a ∷ b ∷ []) 0 (omega arith) (omega arith, omega arith) (omega arith, omega arith)
-char_utf8 _ (three_e0 b c h k) = of_three (224 ∷ b ∷ c ∷ []) 0 (omega arith) (omega arith, omega arith) (omega arith, omega arith) (omega arith, omega arith) (omega arith) (inl (omega arith))
-char_utf8 _ (three_low a b c h k f) = of_three (a ∷ b ∷ c ∷ []) 0 (omega arith) (omega arith, omega arith) (omega arith, omega arith) (omega arith, omega arith) (omega arith) (inl (omega arith))
-char_utf8 _ (three_ed b c h k) = of_three (237 ∷ b ∷ c ∷ []) 0 (omega arith) (omega arith, omega arith) (omega arith, omega arith) (omega arith, omega arith) (omega arith) (inl (omega arith))
-char_utf8 _ (three_high a b c h k f) = of_three (a ∷ b ∷ c ∷ []) 0 (omega arith) (omega arith, omega arith) (omega arith, omega arith) (omega arith, omega arith) (omega arith) (inr (omega arith))
-char_utf8 _ (four_f0 b c d h k f) = of_four (240 ∷ b ∷ c ∷ d ∷ []) 0 (omega arith) (omega arith) (omega arith, omega arith) (omega arith, omega arith) (omega arith, omega arith) (omega arith, omega arith)
-char_utf8 _ (four a b c d h k f g) = of_four (a ∷ b ∷ c ∷ d ∷ []) 0 (omega arith) (omega arith) (omega arith, omega arith) (omega arith, omega arith) (omega arith, omega arith) (omega arith, omega arith)
-char_utf8 _ (four_f4 b c d h k f) = of_four (244 ∷ b ∷ c ∷ d ∷ []) 0 (omega arith) (omega arith) (omega arith, omega arith) (omega arith, omega arith) (omega arith, omega arith) (omega arith, omega arith)
+char_utf8 _ (one a h) = one_utf8 a (omega arith)
+char_utf8 _ (two a b h k) = two_utf8 a b h k
+char_utf8 _ (three_e0 b c h k) =
+    three_utf8 224 b c ((b - 128) * 64 + (c - 128)) (omega arith) (omega arith, omega arith) (omega arith, omega arith) k (omega arith) (inl (omega arith))
+char_utf8 _ (three_low a b c h k f) =
+    three_utf8 a b c ((a - 224) * 4096 + (b - 128) * 64 + (c - 128)) (omega arith) (omega arith, omega arith) k f (omega arith) (inl (omega arith))
+char_utf8 _ (three_ed b c h k) =
+    three_utf8 237 b c (53248 + (b - 128) * 64 + (c - 128)) (omega arith) (omega arith, omega arith) (omega arith, omega arith) k (omega arith) (inl (omega arith))
+char_utf8 _ (three_high a b c h k f) =
+    three_utf8 a b c ((a - 224) * 4096 + (b - 128) * 64 + (c - 128)) (omega arith) (omega arith, omega arith) k f (omega arith) (inr (omega arith, omega arith))
+char_utf8 _ (four_f0 b c d h k f) =
+    four_utf8 240 b c d ((b - 128) * 4096 + (c - 128) * 64 + (d - 128)) (omega arith) (omega arith, omega arith) k f (omega arith) (omega arith)
+char_utf8 _ (four a b c d h k f g) =
+    four_utf8 a b c d ((a - 240) * 262144 + (b - 128) * 4096 + (c - 128) * 64 + (d - 128)) (omega arith) k f g (omega arith) (omega arith)
+char_utf8 _ (four_f4 b c d h k f) =
+    four_utf8 244 b c d (1048576 + (b - 128) * 4096 + (c - 128) * 64 + (d - 128)) (omega arith) (omega arith, omega arith) k f (omega arith) (omega arith)
 
 pub text_utf8 : (bs : List ℕ) → Text bs → IsUtf8 bs
 text_utf8 _ none = IsUtf8-nil
 text_utf8 _ (more x xs c cs) = IsUtf8-append x xs (char_utf8 x c) (text_utf8 xs cs)
 
 two_of : (c : ℕ) → 128 ≤ c → c < 2048 → Char (encode c)
-two_of c h k = subst Char (sym (laws.two c h k)) (two (192 + c / 64) (next c) (omega arith, omega arith) (omega arith, omega arith))
+two_of c h k = subst Char (sym (encode_two c h k)) (two (192 + c / 64) (next c) (omega arith, omega arith) (omega arith, omega arith))
 
 lead_as : (a a' : ℕ) (xs : List ℕ) → a ≡ a' → Char (a' ∷ xs) → Char (a ∷ xs)
 lead_as a a' xs e c = subst (λ z. Char (z ∷ xs)) (sym e) c
@@ -36,7 +41,7 @@ three_of : (c : ℕ) → Scalar c → 2048 ≤ c → c < 65536 → Char (encode 
 three_of c s h k =
     let f : IsInRange 128 191 (next (c / 64)) = (omega arith, omega arith) in
     let g : IsInRange 128 191 (next c) = (omega arith, omega arith) in
-    subst Char (sym (laws.three c h k))
+    subst Char (sym (encode_three c h k))
     (⊎_elim
     (λ l. lead_as (224 + c / 4096) 224 (next (c / 64) ∷ next c ∷ []) (omega arith) (three_e0 (next (c / 64)) (next c) (omega arith, omega arith) g))
     (λ l.
@@ -52,7 +57,7 @@ four_of c s h =
     let g : IsInRange 128 191 (next (c / 64)) = (omega arith, omega arith) in
     let i : IsInRange 128 191 (next c) = (omega arith, omega arith) in
     let u : c < 1114112 = ⊎_elim (λ q. omega arith) (λ q. q.1) s in
-    subst Char (sym (laws.four c h))
+    subst Char (sym (encode_four c h))
     (⊎_elim
     (λ l. lead_as (240 + c / 262144) 240 (next (c / 4096) ∷ next (c / 64) ∷ next c ∷ []) (omega arith) (four_f0 (next (c / 4096)) (next (c / 64)) (next c) (omega arith, omega arith) g i))
     (λ l.
@@ -62,12 +67,12 @@ four_of c s h =
 
 char_of : (c : ℕ) → Scalar c → Char (encode c)
 char_of c s =
-    ⊎_elim (λ h. subst Char (sym (laws.one c h)) (one c (omega arith, omega arith)))
+    ⊎_elim (λ h. subst Char (sym (encode_one c h)) (one c (omega arith, omega arith)))
     (λ a. ⊎_elim (λ h. two_of c a h) (λ b. ⊎_elim (λ h. three_of c s b h) (λ d. four_of c s d) (cases_lt c 65536)) (cases_lt c 2048)) (cases_lt c 128)
 
 text_of : (cs : List ℕ) → scalars cs ≡ true → Text (encodes cs)
 text_of [] e = none
-text_of (c ∷ cs) e = let k = both (scalar c) (scalars cs) e in more (encode c) (encodes cs) (char_of c (scalar_cases c k.0)) (text_of cs k.1)
+text_of (c ∷ cs) e = let k = and_parts (scalar c) (scalars cs) e in more (encode c) (encodes cs) (char_of c (scalar_cases c k.0)) (text_of cs k.1)
 
 pub utf8_text : (bs : List ℕ) → IsUtf8 bs → Text bs
 utf8_text bs u = subst Text u.1.1 (text_of u.0 u.1.0)
