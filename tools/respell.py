@@ -30,6 +30,15 @@ OTHERS = {
     "boundary-order": "boundary_order_of",
     "level-size": "level_size_of",
     "lead-length": "lead_length_of",
+    # Fields, a definition and names of modules, which have no dash.
+    "bytes-above": "bytes_above",
+    "levels-coded": "levels_coded",
+    "largest-one": "largest_one",
+    "smallest-one": "smallest_one",
+    "upper-above": "upper_above",
+    "two-pages": "two_pages",
+    "order-laws": "order_laws",
+    "text-laws": "text_laws",
 }
 OLD = {"getD": "get_or", "countBy": "count_by", "putMid": "put_mid"}
 
@@ -139,6 +148,7 @@ def main():
         sys.exit(__doc__)
     found, functions = declared()
     names = {n: respelled(n, functions) for n in found}
+    names.update((n, s) for n, s in OTHERS.items() if n.endswith("-laws"))
     names = {n: s for n, s in names.items() if n != s}
     taken = {}
     for n, s in names.items():

@@ -7,15 +7,15 @@ use Rattle.kinds.specs.Cuts.{Cuts, uncut}
 use Rattle.kinds.specs.Meaning.{Meaning, admitted}
 use Rattle.strings.specs.Lexical.{above}
 use Rattle.strings.specs.Cut as bytes
-use Rattle.strings.proofs.Orders as order-laws
+use Rattle.strings.proofs.Orders as order_laws
 use Rattle.strings.proofs.Cuts as bytes_laws
 use Rattle.texts.specs.Cut as text
-use Rattle.texts.proofs.Cuts as text-laws
+use Rattle.texts.proofs.Cuts as text_laws
 use Rattle.decimals.specs.Decimals.{decimal}
 
 -- unsigned, byte by byte, a prefix first
 abbrev pub lexical : Order
-lexical = record { greater = above; one_way = order-laws.one_way; splits = order-laws.splits }
+lexical = record { greater = above; one_way = order_laws.one_way; splits = order_laws.splits }
 
 -- cut as bytes
 abbrev pub bytes_cuts : Cuts lexical
@@ -23,7 +23,7 @@ bytes_cuts = record {
   lower = bytes.lower;
   upper = bytes.upper;
   lower_below = bytes_laws.lower_below;
-  upper-above = bytes_laws.upper-above;
+  upper_above = bytes_laws.upper_above;
   lower_shortens = bytes_laws.lower_shortens;
   upper_shortens = bytes_laws.upper_shortens;
 }
@@ -33,10 +33,10 @@ abbrev pub text_cuts : Cuts lexical
 text_cuts = record {
   lower = text.lower;
   upper = text.upper;
-  lower_below = text-laws.lower_below;
-  upper-above = text-laws.upper-above;
-  lower_shortens = text-laws.lower_shortens;
-  upper_shortens = text-laws.upper_shortens;
+  lower_below = text_laws.lower_below;
+  upper_above = text_laws.upper_above;
+  lower_shortens = text_laws.lower_shortens;
+  upper_shortens = text_laws.upper_shortens;
 }
 
 pub few_variable : (w : ℕ) → admitted (Some 0) w ≡ true → w ≤ 128

@@ -19,7 +19,7 @@ pub record Examples : Type 0 where
   pub same_decimal_back : greater decimal_byte_array (0x05 ∷ []) (0x00 ∷ 0x05 ∷ []) ≡ false
   -- 61 FF FF 10 at 3
   pub bytes_below : lower byte_array 3 (0x61 ∷ 0xFF ∷ 0xFF ∷ 0x10 ∷ []) ≡ shortened (0x61 ∷ 0xFF ∷ 0xFF ∷ [])
-  pub bytes-above : upper byte_array 3 (0x61 ∷ 0xFF ∷ 0xFF ∷ 0x10 ∷ []) ≡ shortened (0x62 ∷ 0x00 ∷ 0x00 ∷ [])
+  pub bytes_above : upper byte_array 3 (0x61 ∷ 0xFF ∷ 0xFF ∷ 0x10 ∷ []) ≡ shortened (0x62 ∷ 0x00 ∷ 0x00 ∷ [])
   -- FF FF FF at 2
   pub full_below : lower byte_array 2 (0xFF ∷ 0xFF ∷ 0xFF ∷ []) ≡ shortened (0xFF ∷ 0xFF ∷ [])
   pub full_above : upper byte_array 2 (0xFF ∷ 0xFF ∷ 0xFF ∷ []) ≡ whole (0xFF ∷ 0xFF ∷ 0xFF ∷ [])

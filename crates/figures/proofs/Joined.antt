@@ -145,11 +145,11 @@ smallest-joined m = lowest-joined m.nan (λ v u. greater m v u) (weak_greater m)
 pub largest-joined : (m : Meaning) (xs ys : List (List ℕ)) → largest m (xs ++ ys) ≡ higher m (largest m xs) (largest m ys)
 largest-joined m = lowest-joined m.nan (λ v u. greater m u v) (weak_less m)
 
-pub smallest-one : (m : Meaning) (v : List ℕ) → smallest m (v ∷ []) ≡ Some v
-smallest-one m = lowest-one m.nan (λ v u. greater m v u) (weak_greater m)
+pub smallest_one : (m : Meaning) (v : List ℕ) → smallest m (v ∷ []) ≡ Some v
+smallest_one m = lowest-one m.nan (λ v u. greater m v u) (weak_greater m)
 
-pub largest-one : (m : Meaning) (v : List ℕ) → largest m (v ∷ []) ≡ Some v
-largest-one m = lowest-one m.nan (λ v u. greater m u v) (weak_less m)
+pub largest_one : (m : Meaning) (v : List ℕ) → largest m (v ∷ []) ≡ Some v
+largest_one m = lowest-one m.nan (λ v u. greater m u v) (weak_less m)
 
 pub count-joined : (p : List ℕ → Bool) (xs ys : List (List ℕ)) → count p (xs ++ ys) ≡ count p xs + count p ys
 count-joined p [] ys = sym (zero-add (count p ys))
@@ -160,8 +160,8 @@ joins m = record {
   smallest_of = smallest-joined m;
   largest_of = largest-joined m;
   nans_of = count-joined m.nan;
-  smallest-one = smallest-one m;
-  largest-one = largest-one m;
+  smallest_one = smallest_one m;
+  largest_one = largest_one m;
 }
 
 pub min_updated : (m : Meaning) (old : Option (List ℕ)) (v : List ℕ) (new : Option (List ℕ)) → new ≡ lesser m old (Some v) → MinUpdated m old v new

@@ -4,7 +4,7 @@ use Rattle.std.proofs.lemmas.List.{take_more, get_or-map}
 use Rattle.std.proofs.lemmas.Bool.{cases_Bool, cond_both}
 use Rattle.kinds.specs.Meaning.{Meaning, greater}
 use Rattle.figures.specs.Figures.{smallest, largest, nan_count_of, replaces, lesser, higher, lower_place, higher_place, nan_at}
-use Rattle.figures.proofs.Joined.{smallest-joined, largest-joined, smallest-one, largest-one, count-joined}
+use Rattle.figures.proofs.Joined.{smallest-joined, largest-joined, smallest_one, largest_one, count-joined}
 
 -- the figures of the first i values, by their places
 pub record Seen (m : Meaning) (vs : List (List ℕ)) (i lo hi n : ℕ) : Type 0 where
@@ -36,8 +36,8 @@ module _ (m : Meaning) (vs : List (List ℕ)) where
       record {
         low_within = omega arith;
         high_within = omega arith;
-        low = ap (smallest m) one ∙ smallest-one m (get_or vs 0 []);
-        high = ap (largest m) one ∙ largest-one m (get_or vs 0 []);
+        low = ap (smallest m) one ∙ smallest_one m (get_or vs 0 []);
+        high = ap (largest m) one ∙ largest_one m (get_or vs 0 []);
         nans = sym (ap (nan_count_of m) one ∙ add-zero (nan_at m vs 0));
         few = nan_few (m.nan (get_or vs 0 []));
       }
@@ -52,11 +52,11 @@ module _ (m : Meaning) (vs : List (List ℕ)) where
         high_within = place_within hi i (i + 1) (replaces (m.nan (get_or vs hi [])) (m.nan v) (greater m v (get_or vs hi []))) (omega (arith, s.high_within)) (omega arith);
         low =
             ap (smallest m) more ∙ smallest-joined m (take i vs) (v ∷ [])
-            ∙ ap (λ o. lesser m o (smallest m (v ∷ []))) s.low ∙ ap (λ o. lesser m (Some (get_or vs lo [])) o) (smallest-one m v)
+            ∙ ap (λ o. lesser m o (smallest m (v ∷ []))) s.low ∙ ap (λ o. lesser m (Some (get_or vs lo [])) o) (smallest_one m v)
             ∙ at_place vs lo i (replaces (m.nan (get_or vs lo [])) (m.nan v) (greater m (get_or vs lo []) v));
         high =
             ap (largest m) more ∙ largest-joined m (take i vs) (v ∷ [])
-            ∙ ap (λ o. higher m o (largest m (v ∷ []))) s.high ∙ ap (λ o. higher m (Some (get_or vs hi [])) o) (largest-one m v)
+            ∙ ap (λ o. higher m o (largest m (v ∷ []))) s.high ∙ ap (λ o. higher m (Some (get_or vs hi [])) o) (largest_one m v)
             ∙ at_place vs hi i (replaces (m.nan (get_or vs hi [])) (m.nan v) (greater m v (get_or vs hi [])));
         nans =
             ap (λ k. k + nan_at m vs i) s.nans

@@ -92,8 +92,8 @@ pub record Joins (m : Meaning) : Type 0 where
   pub smallest_of : (xs ys : List (List ℕ)) → smallest m (xs ++ ys) ≡ lesser m (smallest m xs) (smallest m ys)
   pub largest_of : (xs ys : List (List ℕ)) → largest m (xs ++ ys) ≡ higher m (largest m xs) (largest m ys)
   pub nans_of : (xs ys : List (List ℕ)) → nan_count_of m (xs ++ ys) ≡ nan_count_of m xs + nan_count_of m ys
-  pub smallest-one : (v : List ℕ) → smallest m (v ∷ []) ≡ Some v
-  pub largest-one : (v : List ℕ) → largest m (v ∷ []) ≡ Some v
+  pub smallest_one : (v : List ℕ) → smallest m (v ∷ []) ≡ Some v
+  pub largest_one : (v : List ℕ) → largest m (v ∷ []) ≡ Some v
 
 -- the figures of some values, by the bytes of each
 pub record FiguresOf {V : Type 0} (m : Meaning) (bytes : V → List ℕ) (vs : List (List ℕ)) (r : MinMax V) : Type 0 where

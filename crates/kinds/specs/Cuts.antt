@@ -19,7 +19,7 @@ pub record Cuts (o : Order) : Type 0 where
   pub lower : ℕ → List ℕ → Bound
   pub upper : ℕ → List ℕ → Bound
   pub lower_below : (l : ℕ) (v : List ℕ) → o.greater (lower l v).bytes v ≡ false
-  pub upper-above : (l : ℕ) (v : List ℕ) → o.greater v (upper l v).bytes ≡ false
+  pub upper_above : (l : ℕ) (v : List ℕ) → o.greater v (upper l v).bytes ≡ false
   pub lower_shortens : (l : ℕ) (v : List ℕ) → Shortens l v (lower l v)
   pub upper_shortens : (l : ℕ) (v : List ℕ) → Shortens l v (upper l v)
 
@@ -39,7 +39,7 @@ uncut o = record {
   lower = λ _ v. whole v;
   upper = λ _ v. whole v;
   lower_below = λ _ v. never_above_itself o v;
-  upper-above = λ _ v. never_above_itself o v;
+  upper_above = λ _ v. never_above_itself o v;
   lower_shortens = whole_shortens;
   upper_shortens = whole_shortens;
 }

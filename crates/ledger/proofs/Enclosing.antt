@@ -115,9 +115,9 @@ pub lower_below : (m : Meaning) (cut : Option ℕ) (s v : List ℕ) → greater 
 lower_below m None s v h = h
 lower_below m (Some l) s v h = not_greater_on m (lower m (Some l) (Some s)).bytes s v (m.cuts.lower_below l s) h
 
-pub upper-above : (m : Meaning) (cut : Option ℕ) (s v : List ℕ) → greater m v s ≡ false → greater m v (upper m cut (Some s)).bytes ≡ false
-upper-above m None s v h = h
-upper-above m (Some l) s v h = not_greater_on m v s (upper m (Some l) (Some s)).bytes h (m.cuts.upper-above l s)
+pub upper_above : (m : Meaning) (cut : Option ℕ) (s v : List ℕ) → greater m v s ≡ false → greater m v (upper m cut (Some s)).bytes ≡ false
+upper_above m None s v h = h
+upper_above m (Some l) s v h = not_greater_on m v s (upper m (Some l) (Some s)).bytes h (m.cuts.upper_above l s)
 
 -- ---- bounds
 
@@ -129,7 +129,7 @@ bounds_enclose_at m cut vs i h c =
     let hi = largest_there m vs (omega (arith, h)) in
     record {
       above = ap (λ o. greater m (lower m cut o).bytes v) lo.1 ∙ lower_below m cut lo.0 v (smallest_below m vs i lo.0 h lo.1 c);
-      below = ap (λ o. greater m v (upper m cut o).bytes) hi.1 ∙ upper-above m cut hi.0 v (largest-above m vs i hi.0 h hi.1 c);
+      below = ap (λ o. greater m v (upper m cut o).bytes) hi.1 ∙ upper_above m cut hi.0 v (largest-above m vs i hi.0 h hi.1 c);
     }
 
 -- at any value that stands in the list

@@ -70,8 +70,8 @@ digits_reach (suc l) n (x ∷ v) h a b c =
 pub raised-above : (l : ℕ) (v : List ℕ) → l < length v → raised l v < 256 ^ l → above v (digits l (raised l v)) ≡ false
 raised-above l v h k = above_no v (digits l (raised l v)) (digits_reach l (raised l v) v (omega arith) (omega arith) k)
 
-pub upper-above : (l : ℕ) (v : List ℕ) → above v (upper l v).bytes ≡ false
-upper-above l v = upper_by (λ b. above v b.bytes ≡ false) l v (raised-above l v) (never_above_itself v)
+pub upper_above : (l : ℕ) (v : List ℕ) → above v (upper l v).bytes ≡ false
+upper_above l v = upper_by (λ b. above v b.bytes ≡ false) l v (raised-above l v) (never_above_itself v)
 
 pub shortens : (l : ℕ) (v bs : List ℕ) → length bs ≤ l → l < length v → Shortens l v (shortened bs)
 shortens l v bs h k = record { whole = λ e. absurd (true≢false e); short = λ _. (h, k) }

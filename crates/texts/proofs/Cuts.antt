@@ -89,15 +89,15 @@ module _ (l : ℕ) (v : List ℕ) where
       (λ h t. front_by (λ b. above b.bytes v ≡ false) (never_above_itself v) (above_no (take (front l v) v) v (front_below (front l v) v)))
       (bytes_laws.lower_below l v)
 
-  pub upper-above : above v (upper l v).bytes ≡ false
-  upper-above =
+  pub upper_above : above v (upper l v).bytes ≡ false
+  upper_above =
       upper_by (λ b. above v b.bytes ≡ false) (never_above_itself v)
       (λ h t.
       upper_text_by (λ b. above v b.bytes ≡ false) (never_above_itself v)
       (λ rs p.
       above_no v (encodes rs) (asym (encodes rs) v
       (subst (λ w. Above (encodes rs) w) (take-append-drop (front l v) v) (parts_above (take (front l v) v) rs (front_text l v) p (drop (front l v) v))))))
-      (bytes_laws.upper-above l v)
+      (bytes_laws.upper_above l v)
 
   few : l < length v → length (take (front l v) v) ≤ l
   few h = omega (arith, length-take-le (front l v) v (omega (arith, front_few l v)), front_few l v)

@@ -51,8 +51,8 @@ short_bounds = record {
   settings = record { version = 1; row_limit = 1; size_limit = 4096; mode = PageMode; cut_length = Some 2 };
 }
 
-abbrev pub two-pages : List Page
-two-pages = page_of (0x61 ∷ 0xFF ∷ 0xFF ∷ []) ∷ page_of (0x62 ∷ []) ∷ []
+abbrev pub two_pages : List Page
+two_pages = page_of (0x61 ∷ 0xFF ∷ 0xFF ∷ []) ∷ page_of (0x62 ∷ []) ∷ []
 
 pub record Examples : Type 0 where
   -- decimals of unequal length compare as numbers
@@ -69,7 +69,7 @@ pub record Examples : Type 0 where
   pub text_between : Bounds utf8_string 2 (0x61 ∷ 0xC3 ∷ 0xA9 ∷ 0x7A ∷ []) (shortened (0x61 ∷ [])) (shortened (0x62 ∷ []))
       × Bounds utf8_string 3 (0x61 ∷ 0xC3 ∷ 0xA9 ∷ 0x7A ∷ []) (shortened (0x61 ∷ 0xC3 ∷ 0xA9 ∷ [])) (shortened (0x61 ∷ 0xC3 ∷ 0xAA ∷ []))
   -- the levels 0 to 7 in three bits each
-  pub levels-coded : (packed_coding.coded 3 (0 ∷ 1 ∷ 2 ∷ 3 ∷ 4 ∷ 5 ∷ 6 ∷ 7 ∷ []) ≡ 0x03 ∷ 0x88 ∷ 0xC6 ∷ 0xFA ∷ [])
+  pub levels_coded : (packed_coding.coded 3 (0 ∷ 1 ∷ 2 ∷ 3 ∷ 4 ∷ 5 ∷ 6 ∷ 7 ∷ []) ≡ 0x03 ∷ 0x88 ∷ 0xC6 ∷ 0xFA ∷ [])
       × (legacy_coding.coded 3 (0 ∷ 1 ∷ 2 ∷ 3 ∷ 4 ∷ 5 ∷ 6 ∷ 7 ∷ []) ≡ 0x05 ∷ 0x39 ∷ 0x77 ∷ [])
   -- two values of four bytes
   pub values_split : split_body.coded 4 (0x01 ∷ 0x02 ∷ 0x03 ∷ 0x04 ∷ 0x05 ∷ 0x06 ∷ 0x07 ∷ 0x08 ∷ [])
@@ -78,7 +78,7 @@ pub record Examples : Type 0 where
   pub nested_counts : (rows nested ≡ 2) × (nulls 2 nested ≡ 2) × ((marks byte_array nested_layout None nested).null_page ≡ false)
   -- values that ascend, and stored bounds that do not: 62 00 is greater than 62
   pub bounds_unordered : (accepted short_bounds ≡ true)
-      × (ascending byte_array (value_pairs byte_array two-pages) ≡ true)
-      × (stored_pairs byte_array (Some 2) two-pages ≡ record { low = 0x61 ∷ 0xFF ∷ []; high = 0x62 ∷ 0x00 ∷ [] } ∷ record { low = 0x62 ∷ []; high = 0x62 ∷ [] } ∷ [])
-      × (ascending byte_array (stored_pairs byte_array (Some 2) two-pages) ≡ false)
-      × (order short_bounds two-pages ≡ record { ascending = true; descending = false; boundary = 0 })
+      × (ascending byte_array (value_pairs byte_array two_pages) ≡ true)
+      × (stored_pairs byte_array (Some 2) two_pages ≡ record { low = 0x61 ∷ 0xFF ∷ []; high = 0x62 ∷ 0x00 ∷ [] } ∷ record { low = 0x62 ∷ []; high = 0x62 ∷ [] } ∷ [])
+      × (ascending byte_array (stored_pairs byte_array (Some 2) two_pages) ≡ false)
+      × (order short_bounds two_pages ≡ record { ascending = true; descending = false; boundary = 0 })
