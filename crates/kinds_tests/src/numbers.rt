@@ -100,14 +100,17 @@ fn integers_by_value(rt: HostRuntime) {
 #[test]
 fn little_endian(rt: HostRuntime) {
     let mut room = [0u8; 8];
-    assert!(rt; ValueOf::<Int32>::as_bytes(&0x0102_0304i32, &mut room) == &[4, 3, 2, 1]);
-    assert!(rt; ValueOf::<Int32>::as_bytes(&-2i32, &mut room) == &[0xFE, 0xFF, 0xFF, 0xFF]);
+    assert!(rt; ValueOf::<Int32>::as_bytes(&0x0102_0304i32, &mut room) == [4, 3, 2, 1].as_slice());
     assert!(rt;
-        ValueOf::<UInt32>::as_bytes(&0xFFFF_FFFEu32, &mut room) == &[0xFE, 0xFF, 0xFF, 0xFF]
+        ValueOf::<Int32>::as_bytes(&-2i32, &mut room) == [0xFE, 0xFF, 0xFF, 0xFF].as_slice()
+    );
+    assert!(rt;
+        ValueOf::<UInt32>::as_bytes(&0xFFFF_FFFEu32, &mut room)
+            == [0xFE, 0xFF, 0xFF, 0xFF].as_slice()
     );
     assert!(rt;
         ValueOf::<Int64>::as_bytes(&0x0102_0304_0506_0708i64, &mut room)
-            == &[8, 7, 6, 5, 4, 3, 2, 1]
+            == [8, 7, 6, 5, 4, 3, 2, 1].as_slice()
     );
 }
 
