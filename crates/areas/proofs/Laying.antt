@@ -1,10 +1,9 @@
 -- What an area holds once bytes are laid into it: they, and around them what it held.
 use Rattle.std.proofs.Common.{◌≡◌, ℕ, ◌+◌, ◌-◌, ◌≤◌, min, leb, List, [], ◌++◌, length, take, drop, sym, refl, ap, ◌∙◌, ⊎_elim, arith}
 use borrow.Rule.Slice.PartMut.{put_mid}
-use Rattle.std.proofs.lemmas.List.{length-take, length-drop, length-append, length-take-le, take_at, take-append-le, drop_at, drop-drop, drop_all, take_all}
+use Rattle.std.proofs.lemmas.List.{length-drop, length-append, length-take-le, take_at, drop_at, drop-drop, drop_all, take_all}
 use Rattle.std.proofs.lemmas.Bool.{le-leb, cond-true, cases_lt}
-use Rattle.areas.specs.Areas.{part, laid}
-use Rattle.areas.specs.declared.place.Place.{Place}
+use Rattle.areas.specs.Areas.{laid}
 
 -- a part as the code cuts it, within the area's length
 pub part_clamped : (area : List ℕ) (o l f n : ℕ) → f ≡ min (length area) o → n ≡ min (length area - f) l → take (f + n - f) (drop f area) ≡ take l (drop o area)

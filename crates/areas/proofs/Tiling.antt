@@ -1,9 +1,8 @@
 -- Pages that lie one behind the other: what is laid behind them leaves them as they were.
-use Rattle.std.proofs.Common.{◌≡◌, ℕ, zero, suc, ◌+◌, ◌-◌, ◌<◌, ◌≤◌, List, [], ◌∷◌, ◌++◌, map, length, get_or, take, drop, sym, refl, ap, ◌∙◌, arith}
+use Rattle.std.proofs.Common.{◌≡◌, ℕ, zero, suc, ◌+◌, ◌<◌, ◌≤◌, List, [], ◌∷◌, ◌++◌, map, length, get_or, take, drop, sym, refl, ap, ◌∙◌, arith}
 use Rattle.std.specs.List.{flat_map}
 use Rattle.std.specs.List.Sorted.{IsNonDecreasingBy}
-use Rattle.std.proofs.lemmas.List.{take-take, map_push, append_assoc, append-nil, take-append-drop, length-take-le, drop-take}
-use Rattle.std.proofs.lemmas.Slice.{between_is}
+use Rattle.std.proofs.lemmas.List.{take-take, map_push, append_assoc, append-nil, take-append-drop, drop-take}
 use Rattle.areas.specs.Areas.{part, Tiles, end_of}
 use Rattle.areas.specs.declared.place.Place.{Place}
 

@@ -1,15 +1,15 @@
 -- What is cut from a row of bits: in two parts, from its front alone, and from the row of numbers of another width.
-use Rattle.std.proofs.Common.{◌≡◌, ℕ, zero, suc, ◌+◌, ◌-◌, ◌*◌, ◌^◌, ◌<◌, ◌≤◌, min, Bool, false, List, [], ◌∷◌, ◌++◌, length, take, drop, replicate, sym, refl, ap, ◌∙◌, subst, ⊎_elim, append_assoc, mul_assoc, suc-mul, mul_comm, add-mul, suc-add, zero-add, zero-mul, arith}
+use Rattle.std.proofs.Common.{◌≡◌, ℕ, zero, suc, ◌+◌, ◌-◌, ◌*◌, ◌<◌, ◌≤◌, min, Bool, false, List, [], ◌∷◌, ◌++◌, length, take, drop, replicate, sym, refl, ap, ◌∙◌, subst, ⊎_elim, append_assoc, suc-mul, mul_comm, add-mul, suc-add, zero-add, zero-mul, arith}
 use borrow.Rule.Slice.PartMut.{put_mid}
 use Rattle.std.proofs.lemmas.Slice.{take-put_mid}
 use Rattle.std.proofs.lemmas.Nat.{mul-le}
 use Rattle.std.proofs.lemmas.Bool.{cases_lt}
-use Rattle.std.proofs.lemmas.List.{append-nil, take_at, drop_at, drop-drop, take-append-le, drop-append-le, length-append, length-drop, length-take-le, length-replicate, replicate-append-replicate, take_all}
+use Rattle.std.proofs.lemmas.List.{take_at, drop_at, drop-drop, take-append-le, drop-append-le, length-append, length-drop, length-take-le, length-replicate, replicate-append-replicate, take_all}
 use Rattle.bits.specs.declared.order.BitOrder.{BitOrder}
 use Rattle.bits.specs.Rows.{bits_of, value_of, row, cut, first, packed, Fit}
-use Rattle.bits.specs.Packing.{groups, Room, Repacked}
+use Rattle.bits.specs.Packing.{Repacked}
 use Rattle.bits.proofs.Rows.{length-row, length_cut, row-append, cut-row, row_cut, value_lt}
-use Rattle.bits.proofs.Firsts.{length-first, first_add, first_fit, first_over, row_first}
+use Rattle.bits.proofs.Firsts.{length-first, first_add, row_first}
 
 pub cut_add : (o : BitOrder) (k m n : ℕ) (bs : List Bool) → cut o k (m + n) bs ≡ cut o k m bs ++ cut o k n (drop (m * k) bs)
 unfolding cut

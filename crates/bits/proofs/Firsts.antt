@@ -1,9 +1,9 @@
 -- The first numbers of a list, with 0 behind its last: their number, one more of them, and two parts of them.
-use Rattle.std.proofs.Common.{◌≡◌, ℕ, zero, suc, ◌+◌, ◌-◌, ◌*◌, ◌^◌, ◌<◌, ◌≤◌, false, List, [], ◌∷◌, ◌++◌, length, get_or, take, drop, replicate, sym, refl, ap, ◌∙◌, subst, append_assoc, suc-mul, suc-add, zero-add, zero-mul, add-one, arith}
+use Rattle.std.proofs.Common.{◌≡◌, ℕ, zero, suc, ◌+◌, ◌-◌, ◌*◌, ◌≤◌, false, List, [], ◌∷◌, ◌++◌, length, get_or, drop, replicate, sym, refl, ap, ◌∙◌, suc-mul, suc-add, zero-add, zero-mul, add-one, arith}
 use Rattle.std.proofs.lemmas.Nat.{pow_pos}
-use Rattle.std.proofs.lemmas.List.{append-nil, replicate-append-replicate, drop_at}
+use Rattle.std.proofs.lemmas.List.{replicate-append-replicate}
 use Rattle.bits.specs.declared.order.BitOrder.{BitOrder}
-use Rattle.bits.specs.Rows.{row, first, Fit, bits_of}
+use Rattle.bits.specs.Rows.{row, first, Fit}
 use Rattle.bits.proofs.Rows.{row-append, bits_of_zero}
 
 pub length-first : (n : ℕ) (vs : List ℕ) → length (first n vs) ≡ n

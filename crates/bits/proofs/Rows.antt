@@ -1,12 +1,10 @@
 -- Rows of bits: their lengths, what is cut from them, and the bits of a number that is joined from two.
-use Rattle.std.proofs.Common.{◌≡◌, ℕ, zero, suc, ◌+◌, ◌-◌, ◌*◌, ◌/◌, ◌%◌, ◌^◌, ◌<◌, ◌≤◌, Bool, true, false, cond, eqb, List, [], ◌∷◌, ◌++◌, reverse, length, take, drop, replicate, sym, refl, ap, ◌∙◌, subst, append_assoc, mul_assoc, suc-mul, mul_comm, add_comm, pow-suc, zero-add, zero-mul, mul-suc, mul-add, add-one, arith, length-append, rules}
-use native.Mathlib.Nat.{pow-zero, pow-succ'}
+use Rattle.std.proofs.Common.{◌≡◌, ℕ, zero, suc, ◌+◌, ◌*◌, ◌/◌, ◌%◌, ◌^◌, ◌<◌, Bool, true, false, cond, eqb, List, [], ◌∷◌, ◌++◌, reverse, length, take, drop, replicate, sym, refl, ap, ◌∙◌, subst, append_assoc, mul_assoc, suc-mul, mul_comm, add_comm, pow-suc, zero-mul, add-one, arith, length-append}
+use native.Mathlib.Nat.{pow-succ'}
 use lib.ListN.{length-reverse}
 use Rattle.std.proofs.lemmas.Bool.{eq-eqb, ne_eqb}
 use Rattle.std.proofs.lemmas.Bool.Decides.{nat_tests}
-use Rattle.std.proofs.lemmas.List.{take_at, drop_at, reverse-reverse, reverse-append, length-replicate, nil_from_length, replicate_more, length-take-le, length-drop, take-append-drop}
-use Rattle.std.proofs.lemmas.Nat.{pow_pos, pow-add}
-use Rattle.std.specs.List.{flat_map, AllByRecursion as All}
+use Rattle.std.proofs.lemmas.List.{take_at, drop_at, reverse-reverse, reverse-append, nil_from_length, replicate_more, length-take-le, length-drop, take-append-drop}
 use Rattle.bits.specs.declared.order.BitOrder.{BitOrder}
 use Rattle.bits.specs.declared.order.BitOrder.TheVariants.{LeastFirst, MostFirst}
 use Rattle.bits.specs.Rows.{turned, low_bits, bit_sum, bits_of, value_of, row, cut, Fit}

@@ -1,5 +1,5 @@
 -- The format's kinds of byte strings: BYTE_ARRAY, FIXED_LEN_BYTE_ARRAY, String, and Decimal on either type.
-use Rattle.std.specs.Prelude.{◌≡◌, ℕ, ◌≤◌, true, false, ◌&&◌, List, Some, None, Option, nat_le, refl}
+use Rattle.std.specs.Prelude.{◌≡◌, ℕ, ◌≤◌, true, false, Some, None, nat_le, refl}
 use Rattle.std.proofs.Common.{arith}
 use Rattle.std.proofs.lemmas.Bool.{eqb-true, leb-true, and_parts}
 use Rattle.kinds.specs.Orders.{Order}

@@ -1,15 +1,15 @@
 -- Two's complement: sign extension keeps the value, and numbers of one sign and length compare as their bytes do.
-use Rattle.std.proofs.Common.{◌≡◌, ℕ, zero, suc, ◌+◌, ◌-◌, ◌*◌, ◌^◌, ◌<◌, ◌≤◌, Bool, true, false, cond, not, eqb, ltb, leb, ◌⊎◌, List, [], ◌∷◌, ◌++◌, length, get_or, replicate, ℤ, pos, negsuc, ◌-ℤ◌, sym, refl, ap, ◌∙◌, subst, inl, inr, ⊎_elim, mul-le-mul_right, mul_assoc, add-mul, pow-suc, arith}
+use Rattle.std.proofs.Common.{◌≡◌, ℕ, zero, suc, ◌+◌, ◌-◌, ◌*◌, ◌^◌, ◌<◌, ◌≤◌, Bool, true, false, not, eqb, ltb, leb, List, [], ◌∷◌, ◌++◌, length, get_or, replicate, pos, negsuc, ◌-ℤ◌, sym, refl, ap, ◌∙◌, ⊎_elim, mul-le-mul_right, arith}
 use mathlib.Core.Bool.{beq}
 use native.Mathlib.Nat.{pow-succ'}
 use lib.Arith.{digits_lt}
 use lib.Signed.{lt_z}
 use Rattle.std.proofs.lemmas.Int.{ints}
-use Rattle.std.proofs.lemmas.Bool.{cases_order, cases_lt, cases_Bool, cond-true, cond-false, lt-ltb, le-ltb, ltb-true, ltb-false, leb-true, leb-false, eq-eqb, ne_eqb, false≢true, true≢false}
+use Rattle.std.proofs.lemmas.Bool.{cases_order, cases_lt, cond-true, cond-false, lt-ltb, le-ltb, leb-true, leb-false, eq-eqb, ne_eqb, false≢true, true≢false}
 use Rattle.std.proofs.lemmas.List.{length-append, length-replicate}
 use Rattle.strings.specs.Lexical.{above, Bytes}
 use Rattle.strings.specs.Numbers.{number}
-use Rattle.strings.proofs.Numbers.{number_lt, power_pos}
+use Rattle.strings.proofs.Numbers.{number_lt}
 use Rattle.decimals.specs.Decimals.{value, decimal}
 use Rattle.decimals.specs.Extensions.{extension, extended}
 

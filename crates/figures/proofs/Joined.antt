@@ -1,9 +1,9 @@
 -- Figures of joined lists follow from those of the parts: NaN is put behind the numbers, and what is then an
 -- order again has its lowest member found step by step.
-use Rattle.std.proofs.Common.{◌≡◌, ℕ, ◌+◌, Bool, true, false, cond, not, ◌||◌, ◌⊎◌, List, [], ◌∷◌, ◌++◌, Some, None, Option, sym, refl, ap, ◌∙◌, inl, inr, ⊎_elim, add_assoc, zero-add, arith}
-use Rattle.std.proofs.lemmas.Bool.{cases_Bool, cond-true, cond-false, or_parts, or_cases, or_left, or_right, both_ways, not-true, not-false, not_from_true, not_from_false, true≢false, false≢true}
+use Rattle.std.proofs.Common.{◌≡◌, ℕ, ◌+◌, Bool, true, false, cond, not, ◌||◌, ◌⊎◌, List, [], ◌∷◌, ◌++◌, Some, None, Option, sym, refl, ap, ◌∙◌, inl, inr, ⊎_elim, add_assoc, zero-add}
+use Rattle.std.proofs.lemmas.Bool.{cases_Bool, or_parts, or_cases, or_left, or_right, not-true, not-false, false≢true}
 use Rattle.kinds.specs.Meaning.{Meaning, greater}
-use Rattle.figures.specs.Figures.{any, keep, first, count, considered, lowest, smallest, largest, nan_count_of, replaces, merged, lesser, higher, Joins, MinUpdated, MaxUpdated}
+use Rattle.figures.specs.Figures.{any, keep, first, count, lowest, smallest, largest, replaces, merged, lesser, higher, Joins, MinUpdated, MaxUpdated}
 use Rattle.figures.proofs.Lowest.{Test, Weak, picked, lowest-append, irreflexive}
 
 module _ (nan : List ℕ → Bool) (above : Test) where

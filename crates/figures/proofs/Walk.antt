@@ -1,7 +1,6 @@
 -- A walk over values that keeps the places of the smallest and the largest so far.
-use Rattle.std.proofs.Common.{◌≡◌, ℕ, ◌+◌, ◌<◌, ◌≤◌, Bool, true, false, cond, List, [], ◌∷◌, ◌++◌, map, length, get_or, take, Some, None, Option, sym, refl, ap, ◌∙◌, subst, ⊎_elim, add-zero, arith}
+use Rattle.std.proofs.Common.{◌≡◌, ℕ, ◌+◌, ◌<◌, ◌≤◌, Bool, true, false, cond, List, [], ◌∷◌, ◌++◌, map, length, get_or, take, Some, Option, sym, refl, ap, ◌∙◌, add-zero, arith}
 use Rattle.std.proofs.lemmas.List.{take_more, get_or-map}
-use Rattle.std.proofs.lemmas.Bool.{cases_Bool, cond_both}
 use Rattle.kinds.specs.Meaning.{Meaning, greater}
 use Rattle.figures.specs.Figures.{smallest, largest, nan_count_of, replaces, lesser, higher, lower_place, higher_place, nan_at}
 use Rattle.figures.proofs.Joined.{smallest-joined, largest-joined, smallest_one, largest_one, count-joined}

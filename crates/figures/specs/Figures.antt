@@ -1,5 +1,5 @@
 -- Figures of a list of values: smallest, largest and how many are NaN.
-use Rattle.std.specs.Prelude.{◌≡◌, ℕ, ◌+◌, Bool, true, false, cond, not, ◌||◌, List, [], ◌∷◌, ◌++◌, length, Some, None, Option, slice_index_or}
+use Rattle.std.specs.Prelude.{◌≡◌, ℕ, ◌+◌, Bool, true, false, cond, not, ◌||◌, List, [], ◌∷◌, ◌++◌, Some, None, Option, slice_index_or}
 use Rattle.kinds.specs.Meaning.{Meaning, greater}
 use Rattle.figures.specs.declared.min_max.MinMax.{MinMax}
 

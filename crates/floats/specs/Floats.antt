@@ -1,6 +1,6 @@
 -- FLOAT, DOUBLE and Float16 by their little-endian bit patterns, in IEEE 754's total order.
-use Rattle.std.specs.Prelude.{◌≡◌, ℕ, ◌<◌, ◌≤◌, true, false, ◌⊎◌, List, Some}
-use Rattle.std.proofs.Common.{sym, ap, ◌∙◌, inl, inr, ⊎_elim, arith}
+use Rattle.std.specs.Prelude.{◌≡◌, ℕ, ◌<◌, ◌≤◌, true, false, ◌⊎◌, Some}
+use Rattle.std.proofs.Common.{sym, ◌∙◌, inl, inr, ⊎_elim, arith}
 use Rattle.std.proofs.lemmas.Bool.{true≢false}
 use Rattle.ieee.specs.Formats.{Format, binary16, binary32, binary64, datum, is_nan}
 use Rattle.ieee.specs.TotalOrder.{above, rank}

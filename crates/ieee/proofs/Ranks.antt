@@ -1,12 +1,11 @@
 -- The total order of data is the order of their ranks: negative below positive, and within a sign as the bits
 -- below it rise or fall.
-use Rattle.std.proofs.Common.{◌≡◌, ℕ, zero, suc, ◌+◌, ◌-◌, ◌*◌, ◌/◌, ◌%◌, ◌^◌, ◌<◌, ◌≤◌, Bool, true, false, cond, not, eqb, ltb, leb, ℤ, pos, negsuc, neg_ℤ, sym, refl, ap, ◌∙◌, subst, ⊎_elim, mul-le-mul_right, arith}
-use lib.Arith.{digits_lt}
+use Rattle.std.proofs.Common.{◌≡◌, ℕ, zero, suc, ◌+◌, ◌-◌, ◌*◌, ◌/◌, ◌%◌, ◌^◌, ◌<◌, Bool, true, false, cond, not, eqb, ltb, pos, neg_ℤ, sym, refl, ap, ◌∙◌, subst, ⊎_elim, arith}
 use lib.Signed.{lt_z}
-use Rattle.std.proofs.lemmas.Nat.{pow_pos, mod-pow-add, mod_below, pow-add}
-use Rattle.std.proofs.lemmas.Bool.{cases_Bool, cases_order, cases_lt, cond-true, cond-false, eq-eqb, ne_eqb, lt-ltb, le-ltb, cases_eq}
+use Rattle.std.proofs.lemmas.Nat.{pow_pos, mod-pow-add, mod_below}
+use Rattle.std.proofs.lemmas.Bool.{cases_Bool, cases_lt, eq-eqb, ne_eqb, lt-ltb, le-ltb, cases_eq}
 use Rattle.ieee.specs.Formats.{Format, Datum, finite, infinite, nan, size, quiet, payload, datum_of, datum, negative, biased, trailing, is_nan}
-use Rattle.ieee.specs.TotalOrder.{signed, less, numbers_ordered, nans_ordered, total_order, above, rank}
+use Rattle.ieee.specs.TotalOrder.{total_order, above, rank}
 use Rattle.ieee.proofs.Sizes.{low, low_exponent, sizes_order, nans_rise, nans_fall}
 
 -- ---- signed sizes

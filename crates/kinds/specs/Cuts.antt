@@ -1,6 +1,6 @@
 -- Bounds of a page index: a value's bytes, whole or cut to a length.
-use Rattle.std.specs.Prelude.{◌≡◌, ℕ, ◌<◌, ◌≤◌, Bool, true, false, List, [], ◌∷◌, ◌++◌, length, take, drop, refl}
-use Rattle.std.proofs.lemmas.Bool.{false≢true, both_ways, cases_Bool}
+use Rattle.std.specs.Prelude.{◌≡◌, ℕ, ◌<◌, ◌≤◌, Bool, true, false, List, ◌++◌, length, take, drop, refl}
+use Rattle.std.proofs.lemmas.Bool.{false≢true, cases_Bool}
 use Rattle.std.proofs.Common.{⊎_elim}
 use Rattle.kinds.specs.Orders.{Order}
 

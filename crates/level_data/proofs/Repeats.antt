@@ -1,5 +1,5 @@
 -- A value that is repeated: what is counted in it, and a part of it.
-use Rattle.std.proofs.Common.{◌≡◌, ℕ, zero, suc, ◌+◌, ◌-◌, ◌^◌, ◌<◌, ◌≤◌, Bool, true, false, cond, eqb, List, ◌∷◌, length, take, drop, replicate, ℤ, pos, negsuc, count_by, sym, refl, ap, ◌∙◌, ⊎_elim, arith, w16, SFits, of_z}
+use Rattle.std.proofs.Common.{◌≡◌, ℕ, zero, suc, ◌+◌, ◌-◌, ◌^◌, ◌≤◌, Bool, true, false, cond, eqb, length, take, drop, replicate, ℤ, pos, negsuc, count_by, sym, refl, ap, ◌∙◌, ⊎_elim, arith, w16, SFits, of_z}
 use Rattle.std.proofs.lemmas.List.Sums.{sum_by-cons}
 use Rattle.std.proofs.lemmas.List.{take-replicate, drop-replicate, length-replicate}
 use Rattle.std.proofs.lemmas.Bool.{cases_eq, eq-eqb, ne_eqb}

@@ -1,5 +1,5 @@
 -- What borrowed levels stand for: a list, or none where they are absent.
-use Rattle.std.specs.Prelude.{◌≡◌, ℕ, ◌+◌, ◌<◌, ◌≤◌, Bool, true, false, List, [], length, take, drop, replicate, ℤ, pos, negsuc, Some, None, count_by, Option, ◌==◌}
+use Rattle.std.specs.Prelude.{◌≡◌, ℕ, ◌+◌, ◌≤◌, Bool, false, List, [], length, take, drop, replicate, ℤ, pos, negsuc, Some, None, count_by, Option, ◌==◌}
 use Rattle.std.specs.Option.{unwrap_or, option_map}
 use Rattle.level_data.specs.declared.levels_ref.LevelDataRef.{LevelDataRef}
 use Rattle.level_data.specs.declared.levels_ref.LevelDataRef.TheVariants.{Absent, Materialized, Uniform}

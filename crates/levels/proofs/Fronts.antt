@@ -1,10 +1,10 @@
 -- A front and levels behind it, in a list that is written or read part by part.
-use Rattle.std.proofs.Common.{◌≡◌, ℕ, ◌+◌, ◌-◌, ◌*◌, ◌<◌, ◌≤◌, List, [], ◌∷◌, ◌++◌, length, take, drop, sym, refl, ap, ◌∙◌, subst, append_assoc, arith}
+use Rattle.std.proofs.Common.{◌≡◌, ℕ, ◌+◌, ◌≤◌, List, ◌++◌, length, take, drop, sym, refl, ap, ◌∙◌, append_assoc, arith}
 use borrow.Rule.Slice.PartMut.{put_mid, post_of}
 use Rattle.std.proofs.lemmas.List.{take_at, drop_at, drop-drop, length-append, length-take-le, length-drop, take-append-drop}
 use Rattle.bits.specs.declared.order.BitOrder.{BitOrder}
 use Rattle.bits.specs.Rows.{packed, Fit}
-use Rattle.bits.specs.Packing.{Room, Written}
+use Rattle.bits.specs.Packing.{Written}
 use Rattle.bits.proofs.Cuts.{length-packed}
 use Rattle.levels.specs.Lists.{Starts}
 

@@ -1,6 +1,5 @@
 -- The bytes that each coder takes hold its levels, and no more than their groups take.
-use Rattle.std.proofs.Common.{◌≡◌, ℕ, ◌+◌, ◌*◌, ◌≤◌, mul_assoc, arith}
-use Rattle.std.proofs.lemmas.Nat.{mul-le}
+use Rattle.std.proofs.Common.{◌≡◌, ℕ, ◌*◌, arith}
 use Rattle.bits.specs.Packing.{groups, Room}
 use Rattle.levels.specs.Formats.{bytes_for}
 use Rattle.levels.specs.Laws.{room_packed}

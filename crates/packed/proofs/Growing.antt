@@ -1,5 +1,5 @@
 -- A packed sink with one more page: what its table and its area then hold.
-use Rattle.std.proofs.Common.{◌≡◌, ℕ, ◌+◌, ◌-◌, ◌<◌, ◌≤◌, min, true, ◌&&◌, ltb, leb, List, [], ◌∷◌, ◌++◌, map, length, take, set, sym, refl, ap, ◌∙◌, subst, arith}
+use Rattle.std.proofs.Common.{◌≡◌, ℕ, ◌+◌, ◌-◌, ◌≤◌, min, true, ltb, List, [], ◌∷◌, ◌++◌, map, length, take, set, sym, ap, ◌∙◌, subst, arith}
 use Rattle.std.specs.List.{flat_map}
 use Rattle.std.proofs.lemmas.List.{length-set, map_push, take_more_set, take-take}
 use Rattle.std.proofs.lemmas.Bool.{and_parts, both_ways, ltb-true, leb-true}
@@ -8,7 +8,7 @@ use Rattle.areas.specs.Areas.{part, laid, Tiles, end_of}
 use Rattle.areas.specs.declared.place.Place.{Place}
 use Rattle.areas.proofs.Laying.{length-laid, take-laid, middle_laid}
 use Rattle.areas.proofs.Tiling.{end_push, tiles_push, tiles_end, rises_from_tiles, pages-more, tiles_image}
-use Rattle.packed.specs.Packing.{places, end_in, usable, fits_in, magic, packed_store, packed_sink, Sound, Imaged}
+use Rattle.packed.specs.Packing.{places, end_in, usable, fits_in, packed_store, packed_sink, Sound, Imaged}
 use Rattle.packed.specs.declared.sink.PackedSink.{PackedSink}
 
 pub grown : (s s' : PackedSink) (page : List ℕ) (at : ℕ) → fits_in s (length page) ≡ true → at ≡ end_in s

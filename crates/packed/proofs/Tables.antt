@@ -1,7 +1,7 @@
 -- The first pairs of a table, by their number: the k-th, and where the last one ends.
-use Rattle.std.proofs.Common.{◌≡◌, ℕ, ◌+◌, ◌-◌, ◌<◌, ◌≤◌, min, List, [], ◌∷◌, ◌++◌, length, get_or, take, Some, None, sym, refl, ap, ◌∙◌, arith}
+use Rattle.std.proofs.Common.{◌≡◌, ℕ, ◌+◌, ◌-◌, ◌<◌, ◌≤◌, min, List, [], ◌∷◌, ◌++◌, length, get_or, take, Some, None, sym, ap, ◌∙◌, arith}
 use Rattle.std.specs.List.{slice_get}
-use Rattle.std.proofs.lemmas.List.{length-take, get_or-take, take-take, take_more, take_all, nil_from_length}
+use Rattle.std.proofs.lemmas.List.{length-take, get_or-take, take_more, take_all, nil_from_length}
 use Rattle.std.proofs.lemmas.Option.{slice_get-get_or, slice_get_past}
 use Rattle.areas.specs.Areas.{end_of}
 use Rattle.areas.specs.declared.place.Place.{Place}

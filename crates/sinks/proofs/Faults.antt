@@ -1,5 +1,5 @@
 -- A fault is the case whose number and values it says.
-use Rattle.std.proofs.Common.{◌≡◌, ℕ, [], ◌∷◌, get_or, refl, ap, arith}
+use Rattle.std.proofs.Common.{◌≡◌, ℕ, [], ◌∷◌, get_or, ap, arith}
 use Rattle.sinks.specs.Refusals.{Refusal, said, by_sink}
 use Rattle.sinks.specs.declared.fault.SinkFault.{SinkFault}
 use Rattle.sinks.specs.declared.fault.SinkFault.TheVariants.{Area, Full}

@@ -1,11 +1,11 @@
 -- A slotted sink with one more page: what lies behind the pages and before the pairs is all that its area changes.
-use Rattle.std.proofs.Common.{◌≡◌, ℕ, zero, suc, ◌+◌, ◌-◌, ◌*◌, ◌/◌, ◌%◌, ◌<◌, ◌≤◌, min, true, leb, List, [], ◌∷◌, ◌++◌, map, length, get_or, take, drop, sym, refl, ap, ◌∙◌, subst, arith}
+use Rattle.std.proofs.Common.{◌≡◌, ℕ, zero, suc, ◌+◌, ◌-◌, ◌*◌, ◌/◌, ◌%◌, ◌<◌, ◌≤◌, true, leb, List, [], ◌∷◌, ◌++◌, map, length, get_or, take, drop, sym, refl, ap, ◌∙◌, subst, arith}
 use Rattle.std.specs.List.{range_with_len}
 use Rattle.std.proofs.lemmas.List.FromFn.{map-range_with_len_more}
 use Rattle.std.proofs.lemmas.List.{get_or-drop, get_or-take, map_push, take-take}
 use Rattle.std.proofs.lemmas.Bool.{and_parts, leb-true}
 use Rattle.sinks.specs.Sinks.{Grown}
-use Rattle.areas.specs.Areas.{allowed, part, laid, Tiles, end_of}
+use Rattle.areas.specs.Areas.{part, laid, Tiles, end_of}
 use Rattle.areas.specs.declared.place.Place.{Place}
 use Rattle.areas.proofs.Laying.{length-laid, take-laid, middle_laid, drop-laid}
 use Rattle.areas.proofs.Tiling.{end_push, tiles_push, part_same, pages-more}

@@ -1,13 +1,13 @@
 -- The cuts of bytes: their laws over all strings, and that the upper one is refused exactly where no string reaches.
-use Rattle.std.proofs.Common.{◌≡◌, ℕ, zero, suc, ◌+◌, ◌-◌, ◌*◌, ◌/◌, ◌%◌, ◌^◌, ◌<◌, ◌≤◌, Bool, true, false, cond, ◌&&◌, ltb, ◌⊎◌, List, [], ◌∷◌, ◌++◌, length, take, drop, sym, refl, ap, ◌∙◌, subst, inl, inr, ⊎_elim, mul-le-mul_right, mod-lt, add-mul, div-add-mod', arith}
-use Rattle.std.proofs.lemmas.Bool.{cases_order, cases_lt, cases_Bool, ltb-true, ltb-false, lt-ltb, le-ltb, cond-true, cond-false, and_parts, and_from, and_left, and_right, false≢true, true≢false}
-use Rattle.std.proofs.lemmas.List.{length-take, length-take-le, append-nil, take_all, drop_all, take-append-drop}
+use Rattle.std.proofs.Common.{◌≡◌, ℕ, zero, suc, ◌+◌, ◌*◌, ◌/◌, ◌%◌, ◌^◌, ◌<◌, ◌≤◌, true, false, ◌&&◌, ltb, List, [], ◌∷◌, ◌++◌, length, take, drop, sym, refl, ap, ◌∙◌, subst, inl, inr, ⊎_elim, mul-le-mul_right, mod-lt, add-mul, div-add-mod', arith}
+use Rattle.std.proofs.lemmas.Bool.{cases_lt, lt-ltb, le-ltb, cond-true, cond-false, and_from, and_left, and_right, true≢false}
+use Rattle.std.proofs.lemmas.List.{length-take-le, append-nil, take_all, drop_all, take-append-drop}
 use Rattle.kinds.specs.Cuts.{Bound, whole, Shortens, whole_shortens, CutBelow, CutAbove}
 use Rattle.strings.specs.Lexical.{above, Bytes}
 use Rattle.strings.specs.Numbers.{number, digits}
 use Rattle.strings.specs.Cut.{shortened, longer, lower, upper, raised, NoneReaches, Exactly, Incremented}
-use Rattle.strings.proofs.Orders.{Above, above_yes, above_from, above_no, asym, front_below}
-use Rattle.strings.proofs.Numbers.{Full, number_lt, length_digits, bytes-digits, bytes_take, power_pos, full_or_next, plus_one_digits}
+use Rattle.strings.proofs.Orders.{Above, above_from, above_no, asym, front_below}
+use Rattle.strings.proofs.Numbers.{Full, length_digits, bytes-digits, bytes_take, power_pos, full_or_next, plus_one_digits}
 
 pub never_above_itself : (v : List ℕ) → above v v ≡ false
 never_above_itself v = above_no v v (λ a. asym v v a a)

@@ -1,5 +1,5 @@
 -- The cuts of strings: their laws over all strings, that bounds of text are text, and what the functions answer.
-use Rattle.std.proofs.Common.{◌≡◌, ℕ, ◌+◌, ◌-◌, ◌<◌, ◌≤◌, Bool, true, false, cond, ltb, ◌⊎◌, List, [], ◌∷◌, ◌++◌, length, take, drop, Some, None, IsUtf8, Option, sym, refl, ap, ◌∙◌, subst, inl, inr, ⊎_elim, append_assoc, arith}
+use Rattle.std.proofs.Common.{◌≡◌, ℕ, ◌+◌, ◌-◌, ◌<◌, ◌≤◌, true, false, cond, ltb, List, ◌++◌, length, take, drop, Some, None, IsUtf8, Option, sym, refl, ap, ◌∙◌, subst, ⊎_elim, append_assoc, arith}
 use borrow.Rule.Slice.PartMut.{put_mid}
 use lib.Utf8.{encode, encodes}
 use Rattle.std.specs.Char.{len_utf8}
@@ -17,7 +17,7 @@ use Rattle.strings.proofs.Cuts.{never_above_itself, shortens, below_cut, below_w
 use Rattle.texts.specs.Unicode.{Text, is_text}
 use Rattle.texts.specs.Cut.{front, text_lower, raised, raised_bound, text_upper, lower, upper}
 use Rattle.texts.specs.Steps.{RaisedAt, RaisedIn}
-use Rattle.texts.proofs.Tables.{utf8_text, text_utf8, is_text_utf8, utf8_is_text}
+use Rattle.texts.proofs.Tables.{utf8_text, utf8_is_text}
 use Rattle.texts.proofs.Fronts.{front_few, front_text}
 use Rattle.texts.proofs.Raises.{Parts, raised_parts, parts_above, parts_long, parts_text}
 

@@ -1,5 +1,5 @@
 -- Bounds of strings at a length: valid text is cut between characters, and any other string as bytes.
-use Rattle.std.specs.Prelude.{◌≡◌, ℕ, zero, suc, ◌+◌, Bool, true, false, cond, ◌&&◌, List, [], ◌∷◌, length, take, Some, None, Option, nat_lt}
+use Rattle.std.specs.Prelude.{ℕ, zero, suc, ◌+◌, Bool, cond, List, [], ◌∷◌, take, Some, None, Option, nat_lt}
 use Rattle.std.proofs.Math.Utf8.{encodes}
 use Rattle.std.specs.Str.{chars}
 use Rattle.kinds.specs.Cuts.{Bound, whole}

@@ -1,4 +1,4 @@
-use Rattle.std.proofs.Common.{◌≡◌, ℕ, ◌+◌, ◌*◌, ◌≤◌, length, ap, ◌∙◌, mul_assoc, mul-zero, arith}
+use Rattle.std.proofs.Common.{ℕ, ◌*◌, ◌≤◌, length, ap, ◌∙◌, mul_assoc, mul-zero, arith}
 use Rattle.std.proofs.lemmas.Nat.{mul-le}
 use Rattle.bits.specs.Packing.{groups}
 use Rattle.bits.proofs.Cuts.{packed-first}

@@ -1,4 +1,4 @@
-use Rattle.std.proofs.Common.{◌≡◌, ℕ, List, length, sym, ap, ◌∙◌, subst, arith}
+use Rattle.std.proofs.Common.{◌≡◌, length, sym, ap, ◌∙◌, subst, arith}
 use Rattle.bits.specs.Rows.{Fit, packed}
 use Rattle.bits.proofs.Exact.{read_back, written_fit}
 use Rattle.bits.proofs.packing.take_out.Goals as goal

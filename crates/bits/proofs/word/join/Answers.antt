@@ -1,4 +1,3 @@
-use Rattle.std.proofs.Common.{arith}
 use Rattle.bits.proofs.Words.{joined-least, joined-most}
 use Rattle.bits.proofs.word.join.Goals as goal
 

@@ -1,6 +1,6 @@
-use Rattle.std.proofs.Common.{◌≡◌, ℕ, ◌+◌, ◌*◌, ◌^◌, ◌<◌, ◌≤◌, [], length, get_or, drop, sym, refl, ap, ◌∙◌, add-mul, arith}
+use Rattle.std.proofs.Common.{◌≡◌, ◌+◌, length, ap, ◌∙◌, add-mul, arith}
 use Rattle.std.proofs.lemmas.Nat.{mul-le}
-use Rattle.bits.specs.Rows.{bits_of, row, cut}
+use Rattle.bits.specs.Rows.{bits_of, cut}
 use Rattle.bits.proofs.Turns.{spread_none, spread_more, spread_all}
 use Rattle.bits.proofs.word.spread.Goals as goal
 

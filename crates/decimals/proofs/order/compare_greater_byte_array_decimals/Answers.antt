@@ -1,7 +1,6 @@
-use Rattle.std.proofs.Common.{◌<◌, length, sym, ap, ◌∙◌, subst, arith}
-use Rattle.strings.specs.Lexical.{Bytes}
+use Rattle.std.proofs.Common.{◌<◌, length, sym, ◌∙◌, arith}
 use Rattle.strings.proofs.Numbers.{bytes_from}
-use Rattle.decimals.proofs.Values.{Signed, signed_of, greater_there, other_signs, one_sign, greater-longer, greater_shorter}
+use Rattle.decimals.proofs.Values.{signed_of, greater_there, other_signs, one_sign, greater-longer, greater_shorter}
 use Rattle.decimals.proofs.order.compare_greater_byte_array_decimals.Goals as goal
 
 pub returns-then-is_negative-negative : goal.returns-then-is_negative-negative

@@ -1,4 +1,4 @@
-use Rattle.std.proofs.Common.{◌≡◌, ◌+◌, ◌-◌, take, drop, Some, None, sym, ap, subst, arith}
+use Rattle.std.proofs.Common.{◌≡◌, ◌+◌, ◌-◌, take, drop, Some, None, sym, subst, arith}
 use Rattle.kinds.specs.Plain.{Reads}
 use Rattle.kinds.proofs.Plains.{reads_back, none_fixed, some_fixed, none_short, none_variable, some_variable}
 use Rattle.kinds.proofs.plain.read_plain.Goals as goal

@@ -1,4 +1,4 @@
-use Rattle.std.proofs.Common.{◌≡◌, true, false, sym, ap, ◌∙◌, w16, to_z, of_z}
+use Rattle.std.proofs.Common.{sym, ap, ◌∙◌, w16, to_z, of_z}
 use Rattle.std.proofs.lemmas.Int.{to_z-of_z}
 use Rattle.level_data.specs.Levels.{same}
 use Rattle.level_data.proofs.Repeats.{count_repeated_yes, count_repeated_no}

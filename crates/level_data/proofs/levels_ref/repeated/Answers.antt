@@ -1,4 +1,4 @@
-use Rattle.std.proofs.Common.{◌≡◌, length, replicate, Some, None, sym, ap, ◌∙◌, arith, w16}
+use Rattle.std.proofs.Common.{replicate, Some, sym, ap, ◌∙◌, arith, w16}
 use Rattle.std.proofs.lemmas.List.{length-replicate, get_or-replicate}
 use Rattle.std.proofs.lemmas.Option.{slice_get-get_or, slice_get_past}
 use Rattle.std.proofs.lemmas.Int.{to_z-of_z}

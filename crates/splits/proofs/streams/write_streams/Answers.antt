@@ -1,4 +1,4 @@
-use Rattle.std.proofs.Common.{◌≡◌, ℕ, ◌+◌, ◌*◌, ◌<◌, ◌≤◌, List, ◌++◌, length, get_or, drop, set, sym, refl, ap, ◌∙◌, subst, mul_comm, arith}
+use Rattle.std.proofs.Common.{◌≡◌, ℕ, ◌+◌, ◌*◌, ◌<◌, ◌≤◌, ◌++◌, length, get_or, drop, set, sym, ap, subst, mul_comm, arith}
 use Rattle.splits.specs.Streams.{streams}
 use Rattle.splits.proofs.Places.{places_behind}
 use Rattle.std.proofs.lemmas.Nat.{mul-add-lt}

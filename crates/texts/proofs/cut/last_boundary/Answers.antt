@@ -1,8 +1,7 @@
-use Rattle.std.proofs.Common.{◌≡◌, ℕ, ◌<◌, ◌≤◌, true, false, length, get_or, take, IsUtf8, sym, ap, ◌∙◌, subst, ⊎_elim, arith}
+use Rattle.std.proofs.Common.{◌≡◌, get_or, take, IsUtf8, sym, ◌∙◌, subst, ⊎_elim, arith}
 use Rattle.std.proofs.lemmas.Bool.{cases_lt, ltb-true, ltb-false}
 use Rattle.std.proofs.lemmas.Str.{IsUtf8-take, IsUtf8-nil}
 use Rattle.texts.specs.Leads.{lead_length_of}
-use Rattle.texts.specs.Cut.{front}
 use Rattle.texts.proofs.LeadBytes.{lead_at, boundary_at}
 use Rattle.texts.proofs.Fronts.{front_is}
 use Rattle.texts.proofs.cut.last_boundary.Goals as goal

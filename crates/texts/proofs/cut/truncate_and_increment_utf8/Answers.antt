@@ -1,4 +1,4 @@
-use Rattle.std.proofs.Common.{◌≡◌, ◌-◌, ◌≤◌, length, take, IsUtf8, sym, ◌∙◌, subst, arith, rules}
+use Rattle.std.proofs.Common.{◌≡◌, ◌-◌, ◌≤◌, length, take, IsUtf8, subst, arith, rules}
 use Rattle.texts.specs.Cut.{front}
 use Rattle.texts.proofs.Fronts.{front_few, front_text}
 use Rattle.texts.proofs.Cuts.{raised-front}

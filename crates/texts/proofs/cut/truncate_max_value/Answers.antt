@@ -1,4 +1,4 @@
-use Rattle.std.proofs.Common.{length, IsUtf8, sym, refl, ◌∙◌, subst}
+use Rattle.std.proofs.Common.{length, sym, refl, ◌∙◌, subst}
 use Rattle.std.proofs.lemmas.Bool.{ltb-true, ltb-false}
 use Rattle.kinds.specs.Cuts.{CutAbove}
 use Rattle.strings.proofs.Cuts.{above-whole}

@@ -1,4 +1,4 @@
-use Rattle.std.proofs.Common.{length, IsUtf8, sym, ◌∙◌, subst}
+use Rattle.std.proofs.Common.{length, sym, ◌∙◌, subst}
 use Rattle.std.proofs.lemmas.Bool.{ltb-true, ltb-false}
 use Rattle.kinds.specs.Cuts.{CutBelow}
 use Rattle.strings.proofs.Cuts.{below_whole}

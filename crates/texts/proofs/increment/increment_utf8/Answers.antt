@@ -1,4 +1,4 @@
-use Rattle.std.proofs.Common.{◌≡◌, Some, None, sym, ◌∙◌, subst}
+use Rattle.std.proofs.Common.{Some, None, ◌∙◌, subst}
 use Rattle.texts.specs.Steps.{RaisedAt}
 use Rattle.texts.proofs.Cuts.{raised_in, raised_none}
 use Rattle.texts.proofs.increment.increment_utf8.Goals as goal

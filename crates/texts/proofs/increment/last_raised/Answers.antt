@@ -1,10 +1,10 @@
-use Rattle.std.proofs.Common.{◌≡◌, ℕ, ◌+◌, ◌≤◌, true, List, ◌++◌, length, take, Some, IsUtf8, sym, subst, arith, rules}
+use Rattle.std.proofs.Common.{◌≡◌, ℕ, ◌+◌, ◌≤◌, true, List, ◌++◌, length, take, Some, IsUtf8, sym, subst, rules}
 use lib.Utf8.{scalar, encode, encodes}
 use Rattle.std.specs.Str.Iter.{chars_rest}
 use Rattle.std.specs.Char.{len_utf8}
 use Rattle.std.specs.Str.{chars}
 use Rattle.texts.specs.Cut.{raised}
-use Rattle.texts.proofs.Raises.{back_none, back_more, back_all, back_raise}
+use Rattle.texts.proofs.Raises.{back_more, back_all, back_raise}
 use Rattle.texts.proofs.increment.last_raised.Goals as goal
 
 pub returns-in-Some-successor : goal.returns-in-Some-successor

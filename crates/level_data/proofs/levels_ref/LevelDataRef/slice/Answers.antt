@@ -1,6 +1,5 @@
-use Rattle.std.proofs.Common.{◌≡◌, ◌+◌, ◌≤◌, length, take, drop, replicate, Some, sym, refl, ap, ◌∙◌, subst, arith, w16, SFits, rules}
+use Rattle.std.proofs.Common.{◌+◌, ◌≤◌, take, drop, replicate, Some, sym, refl, ap, ◌∙◌, subst, w16, SFits, rules}
 use Rattle.std.specs.Option.{option_map}
-use Rattle.std.proofs.lemmas.List.{length-replicate}
 use Rattle.std.proofs.lemmas.Int.{to_z-of_z}
 use Rattle.level_data.specs.Levels.{levels_of, Reaches}
 use Rattle.level_data.proofs.Repeats.{part_repeated, reaches_repeated, long_repeated}
