@@ -1,5 +1,5 @@
 -- Which columns and settings a chunk accepts.
-use Rattle.std.specs.Prelude.{◌≡◌, ℕ, Bool, true, false, cond, not, ◌&&◌, ◌||◌, [], ◌∷◌, ℤ, pos, negsuc, Some, None, Ok, Option, Result, ◌==◌, int_le, nat_le}
+use Rattle.std.specs.Prelude.{ℕ, Bool, true, cond, not, ◌&&◌, ◌||◌, [], ◌∷◌, ℤ, pos, negsuc, Some, None, Ok, Option, Result, ◌==◌, int_le, nat_le}
 use Rattle.kinds.specs.Meaning.{Meaning, admitted}
 use Rattle.level_coder.specs.Coding.{Coding}
 use Rattle.body_coder.specs.Body.{Body}

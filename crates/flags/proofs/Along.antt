@@ -1,5 +1,5 @@
 -- One pair more at the end: the order holds on if it held and the last pair stands so to the new one.
-use Rattle.std.proofs.Common.{◌≡◌, Bool, true, false, ◌&&◌, List, [], ◌∷◌, ◌++◌, Some, None, sym, refl, ap, ◌∙◌}
+use Rattle.std.proofs.Common.{◌≡◌, Bool, true, false, ◌&&◌, List, [], ◌∷◌, ◌++◌, Some, refl, ap, ◌∙◌}
 use Rattle.flags.specs.Flags.{Pair, along_from, along, last_from, last_of}
 use Rattle.flags.specs.Tracks.{goes_on}
 

@@ -1,6 +1,6 @@
 -- The order of pages by their figures or their stored bounds, as the format's boundary_order has it: over a list of
 -- pairs, a lower and an upper one for each page that has values.
-use Rattle.std.specs.Prelude.{◌≡◌, ℕ, Bool, true, false, not, ◌&&◌, List, [], ◌∷◌, ◌++◌, Some, None, Option}
+use Rattle.std.specs.Prelude.{ℕ, Bool, true, not, ◌&&◌, List, [], ◌∷◌, Some, None, Option}
 use Rattle.kinds.specs.Meaning.{Meaning, greater}
 
 -- a page's lower and upper one

@@ -1,5 +1,5 @@
 -- What a tracker of pages holds of the pairs that it was given.
-use Rattle.std.specs.Prelude.{◌≡◌, Bool, true, false, ◌&&◌, List, [], ◌∷◌, ◌++◌, Some, None, Option}
+use Rattle.std.specs.Prelude.{◌≡◌, Bool, true, List, Some, None, Option}
 use Rattle.buffers.specs.Buffers.{held}
 use Rattle.kinds.specs.Meaning.{Meaning}
 use Rattle.flags.specs.Flags.{Pair, rises, falls, ascending, descending, last_of}

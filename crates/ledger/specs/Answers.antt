@@ -1,5 +1,5 @@
 -- The answers fixed for every call, by what the chunk was opened with, its ledger and what the sink takes.
-use Rattle.std.specs.Prelude.{ℕ, ◌+◌, Bool, true, false, cond, not, ◌||◌, List, [], ◌∷◌, ◌++◌, length, drop, Ok, Err, Result, ◌==◌, nat_le, nat_lt, slice_index_or}
+use Rattle.std.specs.Prelude.{ℕ, ◌+◌, Bool, cond, not, ◌||◌, List, [], ◌∷◌, ◌++◌, length, drop, Ok, Err, Result, ◌==◌, nat_le, nat_lt, slice_index_or}
 use Rattle.sinks.specs.declared.fault.SinkFault.TheVariants.{Full}
 use Rattle.pages.specs.declared.fault.PageFault.TheVariants.{Scratch, Levels, ReadLists, NoPage, Sink}
 use Rattle.pages.specs.declared.counts.PageCounts.{PageCounts}

@@ -1,5 +1,5 @@
 -- What a chunk was opened with, and a page's bytes by it.
-use Rattle.std.specs.Prelude.{◌≡◌, ℕ, Bool, ◌&&◌, ◌||◌, List, length, nat_le, nat_lt}
+use Rattle.std.specs.Prelude.{ℕ, Bool, ◌&&◌, ◌||◌, List, length, nat_le, nat_lt}
 use Rattle.kinds.specs.Meaning.{Meaning}
 use Rattle.level_coder.specs.Coding.{Coding}
 use Rattle.body_coder.specs.Body.{Body}

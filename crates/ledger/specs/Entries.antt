@@ -1,13 +1,12 @@
 -- A page's entry in the index, as the format's ColumnIndex and OffsetIndex have it.
-use Rattle.std.specs.Prelude.{◌≡◌, ℕ, ◌+◌, Bool, true, false, List, [], ◌∷◌, length, take, Some, None, Option, ◌==◌}
-use Rattle.std.specs.List.{slice_get}
+use Rattle.std.specs.Prelude.{◌≡◌, ℕ, ◌+◌, Bool, false, List, [], ◌∷◌, length, take, Some, None, Option, ◌==◌}
 use Rattle.kinds.specs.Cuts.{Bound, whole}
 use Rattle.kinds.specs.Meaning.{Meaning, greater}
 use Rattle.columns.specs.declared.settings.Mode.{Mode}
 use Rattle.columns.specs.declared.settings.Mode.TheVariants.{Chunk as ChunkMode, Page as PageMode}
 use Rattle.pages.specs.declared.layout.Layout.{Layout}
 use Rattle.ledger.specs.Context.{Context, layout, bytes}
-use Rattle.ledger.specs.Figures.{Figures, figures, nan_entry}
+use Rattle.ledger.specs.Figures.{figures, nan_entry}
 use Rattle.ledger.specs.Pages.{Page, joined, rows}
 
 -- a figure as a bound: cut by one of the kind's cuts where there is a cut length, and empty where there is no figure

@@ -1,5 +1,5 @@
 -- The figures of what a page, or all pages joined, hold.
-use Rattle.std.specs.Prelude.{ℕ, cond, List, [], ◌∷◌, ◌++◌, Some, None, Option}
+use Rattle.std.specs.Prelude.{ℕ, cond, List, Some, None, Option}
 use Rattle.kinds.specs.Meaning.{Meaning}
 use Rattle.figures.specs.Figures.{smallest, largest, nan_count_of}
 use Rattle.pages.specs.declared.layout.Layout.{Layout}

@@ -1,5 +1,5 @@
 -- A page as levels and values, in the order in which they came, and what is counted of it.
-use Rattle.std.specs.Prelude.{◌≡◌, ℕ, zero, suc, Bool, true, false, cond, not, List, [], ◌∷◌, ◌++◌, length, Some, None, count_by, Option, ◌==◌, nat_eq}
+use Rattle.std.specs.Prelude.{ℕ, zero, suc, cond, not, List, [], ◌∷◌, ◌++◌, length, Some, None, count_by, Option, ◌==◌, nat_eq}
 use Rattle.kinds.specs.Plain.{plain}
 
 -- a repetition and a definition level for each slot, and the values of the slots that have one

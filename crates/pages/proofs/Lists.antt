@@ -1,6 +1,6 @@
 -- Reading a list back: what stands at the front of bytes, with its length or without.
-use Rattle.std.proofs.Common.{◌≡◌, ℕ, ◌+◌, ◌/◌, ◌%◌, ◌<◌, ◌≤◌, Bool, true, false, cond, ◌&&◌, eqb, List, [], ◌∷◌, ◌++◌, length, get_or, drop, Some, None, Option, sym, refl, ap, ◌∙◌, subst, ⊎_elim, zero-add, arith}
-use Rattle.std.proofs.lemmas.List.{drop-drop, drop_at, length-append, length-drop}
+use Rattle.std.proofs.Common.{◌≡◌, ℕ, ◌+◌, ◌≤◌, Bool, true, false, cond, ◌&&◌, eqb, List, [], ◌∷◌, ◌++◌, length, get_or, drop, Some, None, Option, sym, ap, ◌∙◌, subst, ⊎_elim, zero-add, arith}
+use Rattle.std.proofs.lemmas.List.{drop-drop, length-append, length-drop}
 use Rattle.std.proofs.lemmas.Bool.{cond-false, ne_eqb, cases_eq}
 use Rattle.kinds.specs.Plain.{four}
 use Rattle.level_coder.specs.Coding.{Coding, Admitted, Begins, Read}
@@ -10,7 +10,7 @@ use Rattle.pages.specs.Layout.{with_length, level_part, level_size_of}
 use Rattle.pages.specs.Pages.{ListFits}
 use Rattle.pages.specs.Widths.{bit_length}
 use Rattle.pages.proofs.Parts.{size_none, size-some, part-some, admitted, length_part}
-use Rattle.pages.specs.Reading.{StartsWith, Framed, FramedRead, list_count, ListAt, ListRead, LevelsAt, LevelsRead, levels_size}
+use Rattle.pages.specs.Reading.{StartsWith, Framed, FramedRead, list_count, ListAt, ListRead, LevelsAt, LevelsRead}
 
 pub starts_split : (bytes : List ℕ) (n : ℕ) → 4 ≤ length bytes → StartsWith bytes n → bytes ≡ four n ++ drop 4 bytes
 starts_split [] n l s = absurd (omega arith)

@@ -1,5 +1,5 @@
 -- What a list holds after bytes were written to a part of it that reaches to its end.
-use Rattle.std.proofs.Common.{◌≡◌, ℕ, ◌+◌, ◌-◌, ◌<◌, ◌≤◌, true, List, [], ◌∷◌, ◌++◌, length, take, drop, Some, None, Option, sym, refl, ap, ◌∙◌, arith}
+use Rattle.std.proofs.Common.{◌≡◌, ℕ, ◌+◌, ◌-◌, ◌≤◌, List, [], ◌++◌, length, take, drop, Some, None, Option, sym, ap, ◌∙◌, arith}
 use borrow.Rule.Slice.PartMut.{put_mid, post_of}
 use Rattle.std.proofs.lemmas.List.{append-nil, drop_all, drop-drop, take_rest, take-append-drop, length-drop, take-append-le, take-take, length-take-le, drop_at, take_at, append_assoc}
 use Rattle.level_coder.specs.Coding.{Coding, Coded}

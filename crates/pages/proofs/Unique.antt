@@ -1,13 +1,13 @@
 -- No two inputs of as many levels make one page: by the coders' own laws.
-use Rattle.std.proofs.Common.{◌≡◌, ℕ, ◌+◌, ◌≤◌, Bool, true, false, cond, ◌&&◌, eqb, List, [], ◌∷◌, ◌++◌, length, drop, Some, None, Option, sym, refl, ap, ◌∙◌, subst, ⊎_elim, arith}
+use Rattle.std.proofs.Common.{◌≡◌, ℕ, Bool, true, false, ◌&&◌, eqb, List, ◌++◌, length, drop, Some, None, Option, sym, refl, ap, ◌∙◌, ⊎_elim}
 use Rattle.std.proofs.lemmas.List.{nil_from_length}
-use Rattle.std.proofs.lemmas.Bool.{cond-true, cond-false, eq-eqb, ne_eqb, cases_eq}
+use Rattle.std.proofs.lemmas.Bool.{cond-true, eq-eqb, cases_eq}
 use Rattle.level_coder.specs.Coding.{Coding}
 use Rattle.body_coder.specs.Body.{Body}
 use Rattle.pages.specs.declared.layout.Layout.{Layout}
-use Rattle.pages.specs.Layout.{with_length, level_part, level_size_of}
+use Rattle.pages.specs.Layout.{with_length, level_size_of}
 use Rattle.pages.specs.Widths.{bit_length}
-use Rattle.pages.specs.Reading.{list_count, ListAt, PageHolds, Roomy, PageTaken, PageRead, ReadsBack}
+use Rattle.pages.specs.Reading.{list_count, ListAt, PageHolds, PageRead, ReadsBack}
 use Rattle.pages.proofs.Parts.{part-some}
 use Rattle.pages.proofs.Whole.{holds_levels, holds_body}
 

@@ -1,13 +1,12 @@
 -- A whole page: its two lists and its body are what went in, and nothing else is a page.
-use Rattle.std.proofs.Common.{◌≡◌, ℕ, ◌+◌, ◌<◌, ◌≤◌, Bool, true, false, cond, eqb, List, [], ◌∷◌, ◌++◌, length, take, drop, Some, None, Option, sym, refl, ap, ◌∙◌, subst, ⊎_elim, arith}
+use Rattle.std.proofs.Common.{◌≡◌, ℕ, ◌≤◌, true, false, eqb, List, ◌++◌, length, take, drop, Some, None, Option, sym, ap, ◌∙◌, ⊎_elim, arith}
 use Rattle.std.proofs.lemmas.List.{drop-drop, drop_at, take_at}
 use Rattle.std.proofs.lemmas.Bool.{cond-true, cond-false, eq-eqb, ne_eqb, cases_eq, both_ways}
 use Rattle.level_coder.specs.Coding.{Coding}
 use Rattle.body_coder.specs.Body.{Body, whole, Wrote}
 use Rattle.pages.specs.declared.layout.Layout.{Layout}
 use Rattle.pages.specs.Layout.{level_part, level_size_of}
-use Rattle.pages.specs.Pages.{PageFits}
-use Rattle.pages.specs.Reading.{list_count, ListAt, LevelsAt, levels_size, LevelsRead, PageHolds, Roomy, PageTaken, PageRead}
+use Rattle.pages.specs.Reading.{list_count, LevelsAt, levels_size, LevelsRead, PageHolds, PageRead}
 use Rattle.pages.proofs.Parts.{length_part, size_none, part_none}
 
 pub count_few : (most n : ℕ) → n ≤ 1024 → list_count most n ≤ 1024

@@ -1,5 +1,5 @@
 -- A page's bytes, as the format lays a data page down: repetition levels, definition levels, values.
-use Rattle.std.specs.Prelude.{◌≡◌, ℕ, ◌+◌, ◌<◌, ◌≤◌, Bool, true, false, cond, ◌&&◌, List, [], ◌∷◌, ◌++◌, length, take, drop, Some, None, Option, ◌==◌}
+use Rattle.std.specs.Prelude.{◌≡◌, ℕ, ◌+◌, ◌≤◌, Bool, true, false, cond, ◌&&◌, List, [], ◌++◌, length, take, drop, Some, None, Option, ◌==◌}
 use Rattle.kinds.specs.Plain.{four}
 use Rattle.level_coder.specs.Coding.{Coding, Admitted}
 use Rattle.body_coder.specs.Body.{Body, whole}

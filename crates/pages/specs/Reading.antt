@@ -1,5 +1,5 @@
 -- What reading a page's lists answers, for every byte string.
-use Rattle.std.specs.Prelude.{◌≡◌, ℕ, ◌+◌, ◌/◌, ◌%◌, ◌≤◌, Bool, true, cond, List, ◌++◌, length, drop, Some, None, Option, ◌==◌, slice_index_or}
+use Rattle.std.specs.Prelude.{◌≡◌, ℕ, ◌+◌, ◌/◌, ◌%◌, ◌≤◌, true, cond, List, ◌++◌, length, drop, Some, None, Option, ◌==◌, slice_index_or}
 use Rattle.level_coder.specs.Coding.{Coding, Admitted}
 use Rattle.pages.specs.declared.layout.Layout.{Layout}
 use Rattle.body_coder.specs.Body.{Body}

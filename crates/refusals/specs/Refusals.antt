@@ -1,5 +1,5 @@
 -- What the refusals of the chunk layer say, and in which order a call tests for them.
-use Rattle.std.specs.Prelude.{ℕ, Bool, true, false, cond, List, [], ◌∷◌, Err, Result}
+use Rattle.std.specs.Prelude.{ℕ, Bool, cond, List, [], ◌∷◌, Err, Result}
 use Rattle.sinks.specs.declared.fault.Layer.TheVariants.{Chunk}
 use Rattle.sinks.specs.Refusals.{Refusal}
 use Rattle.pages.specs.Refusals.{said_page}

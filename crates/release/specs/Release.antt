@@ -1,5 +1,5 @@
 -- When a vat may be released: on its smallest hold temperature.
-use Rattle.std.specs.Prelude.{ℕ, Bool, true, false, cond, List, Some, None, Option}
+use Rattle.std.specs.Prelude.{ℕ, cond, List, Some, None, Option}
 use Rattle.kinds.specs.Meaning.{greater}
 use Rattle.figures.specs.Figures.{smallest}
 use Rattle.floats.specs.Floats.{double}

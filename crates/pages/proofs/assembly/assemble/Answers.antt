@@ -1,4 +1,4 @@
-use Rattle.std.proofs.Common.{false, sym, refl, arith}
+use Rattle.std.proofs.Common.{false, refl, arith}
 use Rattle.std.proofs.lemmas.Bool.{both_ways}
 use Rattle.pages.proofs.Parts.{length_page}
 use Rattle.pages.proofs.assembly.assemble.Goals as goal

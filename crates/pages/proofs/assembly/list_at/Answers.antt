@@ -1,6 +1,6 @@
-use Rattle.std.proofs.Common.{◌≡◌, ℕ, ◌+◌, true, false, List, ◌++◌, length, take, drop, sym, ap, ◌∙◌, arith}
+use Rattle.std.proofs.Common.{ℕ, true, false, List, ◌++◌, length, take, drop, sym, ap, ◌∙◌, arith}
 use Rattle.std.proofs.lemmas.List.{take-append-drop}
-use Rattle.pages.proofs.Parts.{size_none, part_none, size-some, part-some, admitted}
+use Rattle.pages.proofs.Parts.{size_none, part_none, size-some, admitted}
 use Rattle.pages.proofs.assembly.list_at.Goals as goal
 
 pub returns-then-max-eq0 : goal.returns-then-max-eq0

@@ -1,7 +1,7 @@
 use Rattle.std.proofs.Common.{◌≡◌, ℕ, ◌^◌, ◌<◌, ◌≤◌, Bool, true, false, List, length, Decides, sym, refl, subst, arith}
 use Rattle.std.proofs.lemmas.Bool.{both_ways}
 use Rattle.std.specs.List.{AllByRecursion as All}
-use Rattle.pages.specs.Pages.{ListFits, FitsList}
+use Rattle.pages.specs.Pages.{FitsList}
 use Rattle.pages.specs.Widths.{bit_length}
 use Rattle.pages.proofs.assembly.list_fits.Goals as goal
 

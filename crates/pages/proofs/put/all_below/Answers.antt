@@ -1,4 +1,4 @@
-use Rattle.std.proofs.Common.{◌≡◌, ℕ, ◌<◌, List, length, get_or, take, refl, subst, arith}
+use Rattle.std.proofs.Common.{ℕ, ◌<◌, List, refl, subst, arith}
 use Rattle.std.proofs.ByRecursion.{All-get_or, All-more}
 use Rattle.std.proofs.lemmas.List.{take_all}
 use Rattle.std.proofs.lemmas.Bool.{false≢true}

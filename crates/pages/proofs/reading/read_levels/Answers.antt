@@ -1,4 +1,4 @@
-use Rattle.std.proofs.Common.{◌-◌, length, take, drop, arith}
+use Rattle.std.proofs.Common.{◌-◌, length, take, drop}
 use Rattle.std.proofs.lemmas.List.{take_rest}
 use Rattle.pages.proofs.Lists.{second_none, both_lists}
 use Rattle.pages.proofs.reading.read_levels.Goals as goal

@@ -1,6 +1,6 @@
 use Rattle.std.proofs.Common.{◌&&◌, sym, ap, ◌∙◌}
-use Rattle.flags.specs.Flags.{rises, falls, ascending, descending, last_of}
-use Rattle.flags.specs.Tracks.{pair_of, pair_if, goes_on, Tracks}
+use Rattle.flags.specs.Flags.{rises, falls, ascending, descending}
+use Rattle.flags.specs.Tracks.{pair_of, goes_on}
 use Rattle.flags.proofs.Along.{along_push, last_push}
 use Rattle.flags.proofs.tracker.Tracker.add.Goals as goal
 
