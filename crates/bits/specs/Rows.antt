@@ -1,6 +1,6 @@
 -- Numbers as rows of bits, in either order: from the Parquet format's encodings text, its sections on bit packing.
 use Rattle.std.specs.Prelude.{ℕ, zero, suc, ◌+◌, ◌-◌, ◌*◌, ◌/◌, ◌%◌, ◌^◌, ◌<◌, Bool, false, cond, List, [], ◌∷◌, ◌++◌, reverse, length, take, drop, replicate, ◌==◌}
-use Rattle.std.specs.List.{flat_map, AllByRecursion as All}
+use Rattle.std.specs.List.{flat_map, AllByRecursion}
 use Rattle.bits.specs.declared.order.BitOrder.{BitOrder}
 use Rattle.bits.specs.declared.order.BitOrder.TheVariants.{LeastFirst, MostFirst}
 
@@ -42,7 +42,7 @@ packed o b k ls = cut o 8 k (row o b ls ++ replicate (8 * k - length ls * b) fal
 
 -- each number has at most b bits
 abbrev pub Fit : ℕ → List ℕ → Type 0
-Fit b ls = All (λ l. l < 2 ^ b) ls
+Fit b ls = AllByRecursion (λ l. l < 2 ^ b) ls
 
 -- the first n numbers of a list, 0 behind its last
 unfoldable pub first : ℕ → List ℕ → List ℕ

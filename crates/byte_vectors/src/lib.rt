@@ -4,14 +4,14 @@
 #![tactic(auto)]
 
 #[cfg(test)]
-mod bytes;
+mod byte_cuts;
 #[cfg(test)]
-mod decimals;
+mod decimal_order;
 mod examples;
 #[cfg(test)]
 mod helper;
 #[cfg(test)]
-mod texts;
+mod text_cuts;
 #[cfg(test)]
 mod values;
 

@@ -1,7 +1,7 @@
 -- What is known of a batch that is not refused by itself, and the answer to its values by what weighing them found.
 use Rattle.std.proofs.Common.{◌≡◌, ℕ, zero, suc, ◌-◌, ◌^◌, ◌≤◌, min, Bool, true, false, not, ◌&&◌, eqb, ltb, List, [], ◌∷◌, map, length, take, replicate, ℤ, pos, negsuc, IfOk, Ok, Err, Option, Result, unwrap_or, sym, ap, ◌∙◌, subst, ⊎_elim, arith}
 use lib.Signed.{le_z}
-use Rattle.std.specs.List.{AllByRecursion as All}
+use Rattle.std.specs.List.{AllByRecursion}
 use Rattle.std.proofs.ByRecursion.{All-weaker, All-map}
 use Rattle.std.proofs.lemmas.List.{length-map, length-replicate, take-map}
 use Rattle.std.proofs.lemmas.Bool.{ltb-true, ltb-false, le-ltb, lt-ltb, leb-true, eqb-true, eq-eqb, ne_eqb, not-false, and_parts, or_parts, cases_eq, cond-true, cond-false, false≢true}
@@ -38,7 +38,7 @@ module _ (most n : ℕ) (given : Option (List ℤ)) where
       ⊎_elim (λ z. ap length (levels_none z) ∙ length-replicate n 0)
       (λ z. ap length (levels-some z) ∙ length-map (unwrap_or given []) natural ∙ not_miscounted (eqb most 0) (ne_eqb most 0 z) h) (cases_eq most 0)
 
-  all_zero : (k : ℕ) → All (λ x. x ≤ most) (replicate k 0)
+  all_zero : (k : ℕ) → AllByRecursion (λ x. x ≤ most) (replicate k 0)
   all_zero zero = tt
   all_zero (suc k) = (omega arith, all_zero k)
 
@@ -46,14 +46,14 @@ module _ (most n : ℕ) (given : Option (List ℤ)) where
   natural_few (pos k) h = leb-true k most (and_parts (le_z (pos 0) (pos k)) (le_z (pos k) (pos most)) h).1
   natural_few (negsuc k) h = omega arith
 
-  levels_range : stray most given ≡ false → All (λ x. x ≤ most) (levels_at most n given)
+  levels_range : stray most given ≡ false → AllByRecursion (λ x. x ≤ most) (levels_at most n given)
   levels_range h =
-      ⊎_elim (λ z. subst (All (λ x. x ≤ most)) (sym (levels_none z)) (all_zero n))
+      ⊎_elim (λ z. subst (AllByRecursion (λ x. x ≤ most)) (sym (levels_none z)) (all_zero n))
       (λ z.
       let e : looked_at most given ≡ unwrap_or given [] = cond-false (eqb most 0) [] (unwrap_or given []) (ne_eqb most 0 z) in
       let a = all_from_leading (in_range most) (looked_at most given) (ltb-false (stray_place most given) (length (looked_at most given)) h) in
-      let a' = subst (All (λ x. in_range most x ≡ true)) e a in
-      subst (All (λ x. x ≤ most)) (sym (levels-some z)) (All-map (λ x. x ≤ most) natural (unwrap_or given []) (All-weaker (λ x. in_range most x ≡ true) (λ x. natural x ≤ most) natural_few (unwrap_or given []) a')))
+      let a' = subst (AllByRecursion (λ x. in_range most x ≡ true)) e a in
+      subst (AllByRecursion (λ x. x ≤ most)) (sym (levels-some z)) (All-map (λ x. x ≤ most) natural (unwrap_or given []) (All-weaker (λ x. in_range most x ≡ true) (λ x. natural x ≤ most) natural_few (unwrap_or given []) a')))
       (cases_eq most 0)
 
 -- ---- the whole batch

@@ -1,6 +1,6 @@
 -- The longest front that passes a test: in a repeated value, and in a list that passes whole.
 use Rattle.std.proofs.Common.{◌≡◌, ℕ, zero, suc, ◌+◌, ◌≤◌, Bool, true, false, List, [], ◌∷◌, length, replicate, refl, ◌∙◌, ⊎_elim, arith}
-use Rattle.std.specs.List.{prefix_len, AllByRecursion as All}
+use Rattle.std.specs.List.{prefix_len, AllByRecursion}
 use Rattle.std.proofs.lemmas.Bool.{cond-true, cond-false, cases_Bool}
 
 module _ {X : Type 0} (p : X → Bool) where
@@ -19,7 +19,7 @@ module _ {X : Type 0} (p : X → Bool) where
   leading_repeated_no (suc n) x h = leading_no x (replicate n x) h
 
   -- a list whose front is as long as it is passes whole
-  pub all_from_leading : (xs : List X) → length xs ≤ prefix_len p xs → All (λ x. p x ≡ true) xs
+  pub all_from_leading : (xs : List X) → length xs ≤ prefix_len p xs → AllByRecursion (λ x. p x ≡ true) xs
   all_from_leading [] h = tt
   all_from_leading (x ∷ xs) h =
       ⊎_elim (λ e. (e, all_from_leading xs (omega (arith, leading_yes x xs e)))) (λ e. absurd (omega (arith, leading_no x xs e))) (cases_Bool (p x))

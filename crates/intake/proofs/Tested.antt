@@ -1,13 +1,13 @@
 -- Tests made in order: which of them is passed over, and what the answer tells of those that were made.
 use Rattle.std.proofs.Common.{◌≡◌, ℕ, Bool, true, false, cond, List, [], ◌∷◌, ◌++◌, Ok, Err, Result, refl, ap, ◌∙◌, arith}
 use Rattle.std.proofs.lemmas.Bool.{cond-true, cond-false}
-use Rattle.std.specs.List.{AllByRecursion as All}
+use Rattle.std.specs.List.{AllByRecursion}
 use Rattle.refusals.specs.Refusals.{Test, refuses, tested}
 use Rattle.refusals.specs.declared.fault.ChunkFault.{ChunkFault}
 
 -- none of the tests holds
 abbrev pub Passed : List Test → Type 0
-Passed ts = All (λ t. t.holds ≡ false) ts
+Passed ts = AllByRecursion (λ t. t.holds ≡ false) ts
 
 -- a test that holds refuses
 pub tested_yes : {A : Type 0} (b : Bool) (f : ChunkFault) (ts : List Test) (r : Result A ChunkFault) → b ≡ true → tested (refuses b f ∷ ts) r ≡ Err f

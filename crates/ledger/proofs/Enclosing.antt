@@ -3,7 +3,7 @@
 use Rattle.std.proofs.Common.{◌≡◌, ℕ, zero, suc, ◌<◌, Bool, true, false, cond, not, ◌⊎◌, List, [], ◌∷◌, length, get_or, Some, None, Option, sym, refl, ap, ◌∙◌, subst, ⊎_elim, arith}
 use Rattle.std.proofs.ByRecursion.{All-get_or}
 use Rattle.std.proofs.lemmas.Bool.{cases_Bool, or_parts, both_ways, not-true, true≢false}
-use Rattle.std.specs.List.{AllByRecursion as All}
+use Rattle.std.specs.List.{AllByRecursion}
 use Rattle.kinds.specs.Meaning.{Meaning, greater}
 use Rattle.figures.specs.Figures.{any, keep, first, lowest, smallest, largest, replaces}
 use Rattle.figures.proofs.Lowest.{Test, Weak, picked, lowest-cons}
@@ -27,7 +27,7 @@ first_passes p (v ∷ vs) s e =
     (cases_Bool (p v))
 
 -- what holds of each member holds of it
-first_holds : (P : List ℕ → Type 0) (p : List ℕ → Bool) (vs : List (List ℕ)) (s : List ℕ) → All P vs → first p vs ≡ Some s → P s
+first_holds : (P : List ℕ → Type 0) (p : List ℕ → Bool) (vs : List (List ℕ)) (s : List ℕ) → AllByRecursion P vs → first p vs ≡ Some s → P s
 first_holds P p [] s all e = let z : ◌≡◌ {A = ℕ} 0 1 = cc in absurd (omega arith)
 first_holds P p (v ∷ vs) s all e =
     ⊎_elim
@@ -72,7 +72,7 @@ module _ (nan : List ℕ → Bool) (above : Test) (weak : Weak above) where
 
   -- a figure is above no value that is not NaN, and above none where all are
   pub figure_below : (vs : List (List ℕ)) (i : ℕ) (s : List ℕ) → i < length vs → figure vs ≡ Some s
-      → (nan (get_or vs i []) ≡ false) ⊎ All (λ u. nan u ≡ true) vs → above s (get_or vs i []) ≡ false
+      → (nan (get_or vs i []) ≡ false) ⊎ AllByRecursion (λ u. nan u ≡ true) vs → above s (get_or vs i []) ≡ false
   figure_below vs i s h e c =
       let v : List ℕ = get_or vs i [] in
       let p : List ℕ → Bool = λ u. not (any (λ x. behind u x) vs) in

@@ -1,6 +1,6 @@
 -- Pages joined: a page behind another adds its counts to that one's, and so do pages in a row.
 use Rattle.std.proofs.Common.{◌≡◌, ℕ, zero, suc, ◌+◌, ◌*◌, ◌<◌, ◌≤◌, Bool, true, false, cond, not, eqb, List, [], ◌∷◌, ◌++◌, length, get_or, Some, None, sum_by, count_by, Option, sym, refl, ap, ◌∙◌, ⊎_elim, mul_comm, arith}
-use Rattle.std.specs.List.{AllByRecursion as All}
+use Rattle.std.specs.List.{AllByRecursion}
 use Rattle.std.proofs.lemmas.List.{append-nil, append_assoc, length-append, length_push, get_or_append_left, get_or_push, get_or_past, take-append-le, take_at}
 use Rattle.std.proofs.lemmas.List.Sums.{sum_by-cons, sum_by-append}
 use Rattle.std.proofs.ByRecursion.{sum_by_le}
@@ -51,7 +51,7 @@ adds_up size a [] = a.none
 adds_up size a (p ∷ ps) = a.both p (joined ps) ∙ ap (λ n. size p + n) (adds_up size a ps) ∙ sym (sum_by-cons size p ps)
 
 -- where each page has at most n, all have at most n for each page
-pub adds_few : (size : Page → ℕ) → Adds size → (n : ℕ) (ps : List Page) → All (λ p. size p ≤ n) ps → size (joined ps) ≤ n * length ps
+pub adds_few : (size : Page → ℕ) → Adds size → (n : ℕ) (ps : List Page) → AllByRecursion (λ p. size p ≤ n) ps → size (joined ps) ≤ n * length ps
 adds_few size a n ps h = omega (arith, adds_up size a ps, sum_by_le size n ps h, mul_comm (length ps) n)
 
 pub reps_add : Adds (λ p. length p.reps)

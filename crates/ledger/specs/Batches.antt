@@ -1,7 +1,7 @@
 -- A batch as it is given, what it takes, and what it is refused for.
 use Rattle.std.specs.Prelude.{◌≡◌, ℕ, ◌≤◌, Bool, true, false, cond, not, ◌&&◌, ◌||◌, List, [], ◌∷◌, ◌++◌, map, length, take, replicate, ℤ, pos, negsuc, is_some, count_by, Option, ◌==◌, int_le, nat_eq, nat_lt}
 use Rattle.std.specs.Option.{unwrap_or}
-use Rattle.std.specs.List.{prefix_len, AllByRecursion as All}
+use Rattle.std.specs.List.{prefix_len, AllByRecursion}
 use Rattle.kinds.specs.Plain.{sized}
 use Rattle.level_data.specs.Levels.{same}
 use Rattle.pages.specs.declared.fault.PageFault.TheVariants.{PlainBytes}
@@ -109,8 +109,8 @@ pub record Admitted (l : Layout) (b : Batch) : Type 0 where
   pub few : b.count ≤ 256
   pub rep_count : length (reps_of l b) ≡ b.count
   pub def_count : length (defs_of l b) ≡ b.count
-  pub rep_range : All (λ x. x ≤ l.max_rep_level) (reps_of l b)
-  pub def_range : All (λ x. x ≤ l.max_def_level) (defs_of l b)
+  pub rep_range : AllByRecursion (λ x. x ≤ l.max_rep_level) (reps_of l b)
+  pub def_range : AllByRecursion (λ x. x ≤ l.max_def_level) (defs_of l b)
   pub enough : needed l b ≤ length b.values
-  pub sizes : All (λ v. sized l.width v ≡ true) (values_of l b)
+  pub sizes : AllByRecursion (λ v. sized l.width v ≡ true) (values_of l b)
   pub light : length (plains l.width (values_of l b)) ≤ 4096

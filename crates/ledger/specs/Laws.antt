@@ -1,7 +1,7 @@
 -- What holds of a chunk's pages whatever they hold: counts add up, figures follow from the pages' own, bounds enclose
 -- the values, and what the two orders of pages say.
 use Rattle.std.specs.Prelude.{◌≡◌, ℕ, ◌+◌, ◌<◌, Bool, true, false, ◌⊎◌, List, [], ◌∷◌, map, length, get_or, Some, None, sum_by, Option, slice_index_or}
-use Rattle.std.specs.List.{AllByRecursion as All}
+use Rattle.std.specs.List.{AllByRecursion}
 use Rattle.kinds.specs.Meaning.{Meaning, greater}
 use Rattle.figures.specs.Figures.{smallest, largest, lesser, higher}
 use Rattle.flags.specs.Flags.{ascending, descending}
@@ -55,7 +55,7 @@ FiguresJoin m l ps = figures m l (joined ps) ≡ all_together m l (map (figures 
 
 -- a value that bounds speak of: one that is not NaN, or any where all are NaN
 abbrev pub Spoken : Meaning → List (List ℕ) → List ℕ → Type 0
-Spoken m vs v = (m.nan v ≡ false) ⊎ All (λ u. m.nan u ≡ true) vs
+Spoken m vs v = (m.nan v ≡ false) ⊎ AllByRecursion (λ u. m.nan u ≡ true) vs
 
 -- the stored bounds of a page enclose its values
 abbrev pub PageEncloses : Meaning → Option ℕ → Page → Type 0
@@ -64,7 +64,7 @@ PageEncloses m cut p = (i : ℕ) → i < length p.values → Spoken m p.values (
 
 -- those of each page do
 abbrev pub BoundsEnclose : Meaning → Option ℕ → List Page → Type 0
-BoundsEnclose m cut ps = All (λ p. PageEncloses m cut p) ps
+BoundsEnclose m cut ps = AllByRecursion (λ p. PageEncloses m cut p) ps
 
 -- ---- the order of pages
 

@@ -1,6 +1,6 @@
 -- What goes into a page, and what assembling and reading one answer.
 use Rattle.std.specs.Prelude.{◌≡◌, ℕ, ◌^◌, ◌<◌, ◌≤◌, Bool, true, false, List, ◌++◌, length, drop, Some, None, Option}
-use Rattle.std.specs.List.{AllByRecursion as All}
+use Rattle.std.specs.List.{AllByRecursion}
 use Rattle.level_coder.specs.Coding.{Coding}
 use Rattle.body_coder.specs.Body.{Body, whole}
 use Rattle.pages.specs.declared.layout.Layout.{Layout}
@@ -11,7 +11,7 @@ use Rattle.pages.specs.Widths.{bit_length}
 pub record ListFits (most : ℕ) (ls : List ℕ) : Type 0 where
   pub few : length ls ≤ 1024
   pub narrow : most ≤ 15
-  pub fit : All (λ l. l < 2 ^ bit_length most) ls
+  pub fit : AllByRecursion (λ l. l < 2 ^ bit_length most) ls
 
 abbrev pub FitsList : ℕ → List ℕ → Bool → Type 0
 FitsList most ls true = ListFits most ls

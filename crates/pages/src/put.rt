@@ -1,5 +1,5 @@
 ghost use Rattle.std.specs.Prelude.{◌≡◌, ◌+◌, ◌^◌, ◌<◌, ◌≤◌, true, ◌++◌, length, take, drop, Decides};
-ghost use Rattle.std.specs.List.{AllByRecursion as All};
+ghost use Rattle.std.specs.List.{AllByRecursion};
 ghost use Rattle.kinds.specs.Plain.{four};
 ghost use Rattle.level_coder.specs.Coding.{Admitted};
 ghost use Rattle.pages.specs.Layout.{CodedAt, BodyAt, with_length};
@@ -28,7 +28,7 @@ pub(crate) fn level_limit(max: u8) -> u8
 
 // Whether each level is below the limit.
 pub(crate) fn all_below(levels: &[u8], limit: u8) -> bool
-    ensures { Decides result (All (λ l. l < limit) levels.now) }
+    ensures { Decides result (AllByRecursion (λ l. l < limit) levels.now) }
 {
     for i in 0..levels.len() {
         if levels[i] >= limit {
