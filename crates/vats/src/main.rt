@@ -11,6 +11,7 @@ use std::collections::BTreeMap;
 use std::env;
 use std::io::{BufRead, BufReader};
 use std::num::f64_to_bits_with_nan;
+use std::process::ExitCode;
 
 mod day;
 mod report;
@@ -57,10 +58,12 @@ fn run(rt: &HostRuntime) -> anyhow::Result<()> {
     Ok(())
 }
 
-fn main(rt: HostRuntime) -> anyhow::Result<()> {
-    let done = run(&rt);
-    if let Err(e) = &done {
-        let _ = eprintln!(rt; "vats: {e}");
+fn main(rt: HostRuntime) -> ExitCode {
+    match run(&rt) {
+        Ok(()) => ExitCode::SUCCESS,
+        Err(e) => {
+            let _ = eprintln!(rt; "vats: {e}");
+            ExitCode::FAILURE
+        }
     }
-    done
 }
