@@ -1,4 +1,4 @@
--- Text by the Unicode table is what the library's `Utf8` says, row by row, and what the test answers.
+-- Text by the Unicode table is what the library's `IsUtf8` says, row by row, and what the test answers.
 use Rattle.std.proofs.Common.{◌≡◌, ℕ, ◌+◌, ◌-◌, ◌*◌, ◌/◌, ◌<◌, ◌≤◌, true, false, eqb, List, [], ◌∷◌, IsUtf8, sym, refl, ap, ◌∙◌, subst, inl, inr, ⊎_elim, arith}
 use lib.Utf8.{scalar, scalars, encode, encodes, next, scalar_cases}
 use Rattle.std.specs.Int.{IsInRange}
