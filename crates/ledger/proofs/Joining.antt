@@ -96,7 +96,7 @@ get_or-tally (suc k) ls i h =
     (λ n. get_or_append_left (tally k ls) (count_by (eqb k) ls ∷ []) 0 i (omega (arith, n, length-tally k ls)) ∙ get_or-tally k ls i (omega (arith, n)))
     (cases_eq i k)
 
-pub count_by-append : (p : ℕ → Bool) (xs ys : List ℕ) → count_by p (xs ++ ys) ≡ count_by p xs + count_by p ys
+pub count_by-append : {X : Type 0} (p : X → Bool) (xs ys : List X) → count_by p (xs ++ ys) ≡ count_by p xs + count_by p ys
 count_by-append p = sum_by-append (λ x. cond (p x) 1 0)
 
 pub get_or-tally-append : (k : ℕ) (xs ys : List ℕ) (i : ℕ) → get_or (tally k (xs ++ ys)) i 0 ≡ get_or (tally k xs) i 0 + get_or (tally k ys) i 0

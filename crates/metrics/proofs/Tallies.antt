@@ -1,9 +1,10 @@
 -- A tally by its places: it is as long as it has levels, and at each level stands how often that occurs.
-use Rattle.std.proofs.Common.{◌≡◌, ℕ, zero, suc, ◌+◌, ◌-◌, ◌^◌, ◌<◌, ◌≤◌, min, Bool, cond, eqb, ltb, ◌≢◌, List, [], ◌∷◌, ◌++◌, length, get_or, set, replicate, Some, None, count_by, sym, refl, ap, ◌∙◌, ⊎_elim, add-one, arith}
-use Rattle.std.proofs.lemmas.List.{length_push, get_or_push, get_or_append_left, ext_get_or, length-set, get_or-set_same, get_or-set_other, get_or-replicate, length-replicate}
-use Rattle.std.proofs.lemmas.List.Sums.{sum_by-append, sum_by_push, count_by-le-length}
-use Rattle.std.proofs.lemmas.Bool.{cases_lt, cases_eq, cases_Bool, eq-eqb, ne_eqb, le-ltb}
+use Rattle.std.proofs.Common.{◌≡◌, ℕ, suc, ◌+◌, ◌-◌, ◌^◌, ◌<◌, ◌≤◌, min, Bool, cond, eqb, ltb, ◌≢◌, List, [], ◌∷◌, ◌++◌, length, get_or, set, replicate, Some, None, count_by, sym, refl, ap, ◌∙◌, ⊎_elim, arith}
+use Rattle.std.proofs.lemmas.List.{length_push, ext_get_or, length-set, get_or-set_same, get_or-set_other, get_or-replicate, length-replicate}
+use Rattle.std.proofs.lemmas.List.Sums.{sum_by_push, count_by-le-length}
+use Rattle.std.proofs.lemmas.Bool.{cases_eq, cases_Bool, eq-eqb, ne_eqb, le-ltb}
 use Rattle.ledger.specs.Pages.{tally, counts}
+use Rattle.ledger.proofs.Joining.{length-tally, get_or-tally, count_by-append}
 use Rattle.metrics.specs.Histograms.{one_more, Added}
 
 none≢some : (cs : List ℕ) → None ≡ Some cs → ⊥
@@ -12,29 +13,11 @@ none≢some cs e = let z : ◌≡◌ {A = ℕ} 0 1 = cc in omega arith
 same_some : (xs ys : List ℕ) → Some xs ≡ Some ys → xs ≡ ys
 same_some xs ys e = cc
 
-pub length-tally : (k : ℕ) (ls : List ℕ) → length (tally k ls) ≡ k
-length-tally zero ls = refl
-length-tally (suc k) ls = length_push (tally k ls) (count_by (eqb k) ls) ∙ ap (λ n. n + 1) (length-tally k ls) ∙ add-one k
-
-pub get_or-tally : (k : ℕ) (ls : List ℕ) (i : ℕ) → i < k → get_or (tally k ls) i 0 ≡ count_by (eqb i) ls
-get_or-tally zero ls i h = absurd (omega arith)
-get_or-tally (suc k) ls i h =
-    let n = length-tally k ls in
-    ⊎_elim
-    (λ lt. get_or_append_left (tally k ls) (count_by (eqb k) ls ∷ []) 0 i (omega (arith, lt, n)) ∙ get_or-tally k ls i lt)
-    (λ ge.
-    let e : k ≡ i = omega (arith, ge, h) in
-    get_or_push (tally k ls) (count_by (eqb k) ls) 0 i (n ∙ e) ∙ ap (λ j. count_by (eqb j) ls) e)
-    (cases_lt i k)
-
 -- a list with the counts of a tally is that tally
 pub tally_from_get_or : (cs : List ℕ) (k : ℕ) (ls : List ℕ) → length cs ≡ k → ((i : ℕ) → i < k → get_or cs i 0 ≡ count_by (eqb i) ls) → cs ≡ tally k ls
 tally_from_get_or cs k ls n at =
     ext_get_or 0 cs (tally k ls) (n ∙ sym (length-tally k ls))
     (λ i h. let lt : i < k = omega (arith, n, h) in at i lt ∙ sym (get_or-tally k ls i lt))
-
-pub count_by-append : {X : Type 0} (p : X → Bool) (xs ys : List X) → count_by p (xs ++ ys) ≡ count_by p xs + count_by p ys
-count_by-append p xs ys = sum_by-append (λ x. cond (p x) 1 0) xs ys
 
 pub count_by_push : {X : Type 0} (p : X → Bool) (xs : List X) (y : X) → count_by p (xs ++ (y ∷ [])) ≡ count_by p xs + cond (p y) 1 0
 count_by_push p xs y = sum_by_push (λ x. cond (p x) 1 0) xs y
