@@ -1,8 +1,11 @@
+ghost use Rattle.std.specs.Prelude.{true, Some};
+ghost use Rattle.std.proofs.Common.{rules};
+ghost use Rattle.kinds.specs.declared.physical.PhysicalType.TheVariants.{Double};
 ghost use Rattle.words.specs.Words.{eight};
 ghost use Rattle.floats.specs.Floats.{double};
 
 use ieee::{is_nan_f64, total_greater_f64};
-use kinds::{Descriptor, Kind, PhysicalType, ValueOf, truncate_none_max, truncate_none_min};
+use kinds::{Kind, PhysicalType, ValueOf, truncate_none_max, truncate_none_min};
 use words::{lend8, word8};
 
 // DOUBLE: binary64 patterns in the total order.
@@ -20,14 +23,15 @@ impl Kind for Double {
 
     const HAS_NAN: bool = true;
 
-    fn descriptor() -> Descriptor {
-        Descriptor {
-            number: Self::NUMBER,
-            physical_type: Self::PHYSICAL_TYPE,
-            width: Self::WIDTH,
-            has_nan: Self::HAS_NAN,
-        }
-    }
+    ghost NUMBER = { 6 };
+
+    ghost PHYSICAL_TYPE = { Double };
+
+    ghost WIDTH = { Some 8 };
+
+    ghost HAS_NAN = { true };
+
+    ghost described = { Prim.search rules };
 
     fn is_nan(value: &[u8]) -> bool {
         is_nan_f64(word8(value))

@@ -1,8 +1,11 @@
+ghost use Rattle.std.specs.Prelude.{true, Some};
+ghost use Rattle.std.proofs.Common.{rules};
+ghost use Rattle.kinds.specs.declared.physical.PhysicalType.TheVariants.{FixedLenByteArray};
 ghost use Rattle.words.specs.Words.{two};
 ghost use Rattle.floats.specs.Floats.{float16};
 
 use ieee::{is_nan_f16, total_greater_f16};
-use kinds::{Descriptor, Kind, PhysicalType, ValueOf, truncate_none_max, truncate_none_min};
+use kinds::{Kind, PhysicalType, ValueOf, truncate_none_max, truncate_none_min};
 use words::{lend2, word2};
 
 // Float16: binary16 patterns in two bytes of FIXED_LEN_BYTE_ARRAY, in the total order.
@@ -20,14 +23,15 @@ impl Kind for Float16 {
 
     const HAS_NAN: bool = true;
 
-    fn descriptor() -> Descriptor {
-        Descriptor {
-            number: Self::NUMBER,
-            physical_type: Self::PHYSICAL_TYPE,
-            width: Self::WIDTH,
-            has_nan: Self::HAS_NAN,
-        }
-    }
+    ghost NUMBER = { 7 };
+
+    ghost PHYSICAL_TYPE = { FixedLenByteArray };
+
+    ghost WIDTH = { Some 2 };
+
+    ghost HAS_NAN = { true };
+
+    ghost described = { Prim.search rules };
 
     fn is_nan(value: &[u8]) -> bool {
         is_nan_f16(word2(value))

@@ -1,8 +1,11 @@
+ghost use Rattle.std.specs.Prelude.{true, Some};
+ghost use Rattle.std.proofs.Common.{rules};
+ghost use Rattle.kinds.specs.declared.physical.PhysicalType.TheVariants.{Float};
 ghost use Rattle.kinds.specs.Plain.{four};
 ghost use Rattle.floats.specs.Floats.{float};
 
 use ieee::{is_nan_f32, total_greater_f32};
-use kinds::{Descriptor, Kind, PhysicalType, ValueOf, truncate_none_max, truncate_none_min};
+use kinds::{Kind, PhysicalType, ValueOf, truncate_none_max, truncate_none_min};
 use words::{lend4, word4};
 
 // FLOAT: binary32 patterns in the total order.
@@ -20,14 +23,15 @@ impl Kind for Float {
 
     const HAS_NAN: bool = true;
 
-    fn descriptor() -> Descriptor {
-        Descriptor {
-            number: Self::NUMBER,
-            physical_type: Self::PHYSICAL_TYPE,
-            width: Self::WIDTH,
-            has_nan: Self::HAS_NAN,
-        }
-    }
+    ghost NUMBER = { 5 };
+
+    ghost PHYSICAL_TYPE = { Float };
+
+    ghost WIDTH = { Some 4 };
+
+    ghost HAS_NAN = { true };
+
+    ghost described = { Prim.search rules };
 
     fn is_nan(value: &[u8]) -> bool {
         is_nan_f32(word4(value))

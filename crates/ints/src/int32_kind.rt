@@ -1,10 +1,12 @@
+ghost use Rattle.std.specs.Prelude.{false, Some};
+ghost use Rattle.kinds.specs.declared.physical.PhysicalType.TheVariants.{Int32};
 ghost use Rattle.std.specs.Int.{w32};
-ghost use Rattle.std.proofs.Common.{of_z};
+ghost use Rattle.std.proofs.Common.{of_z, rules};
 ghost use Rattle.ints.specs.Ints.{int32};
 ghost use Rattle.kinds.specs.Plain.{four};
 
 use crate::signed::signed4;
-use kinds::{Descriptor, Kind, PhysicalType, ValueOf, truncate_none_max, truncate_none_min};
+use kinds::{Kind, PhysicalType, ValueOf, truncate_none_max, truncate_none_min};
 use words::lend4;
 
 // INT32, signed.
@@ -22,14 +24,15 @@ impl Kind for Int32 {
 
     const HAS_NAN: bool = false;
 
-    fn descriptor() -> Descriptor {
-        Descriptor {
-            number: Self::NUMBER,
-            physical_type: Self::PHYSICAL_TYPE,
-            width: Self::WIDTH,
-            has_nan: Self::HAS_NAN,
-        }
-    }
+    ghost NUMBER = { 1 };
+
+    ghost PHYSICAL_TYPE = { Int32 };
+
+    ghost WIDTH = { Some 4 };
+
+    ghost HAS_NAN = { false };
+
+    ghost described = { Prim.search rules };
 
     fn is_nan(_value: &[u8]) -> bool {
         false

@@ -1,10 +1,12 @@
+ghost use Rattle.std.specs.Prelude.{false, Some};
+ghost use Rattle.kinds.specs.declared.physical.PhysicalType.TheVariants.{Int64};
 ghost use Rattle.std.specs.Int.{w64};
-ghost use Rattle.std.proofs.Common.{of_z};
+ghost use Rattle.std.proofs.Common.{of_z, rules};
 ghost use Rattle.ints.specs.Ints.{int64};
 ghost use Rattle.words.specs.Words.{eight};
 
 use crate::signed::signed8;
-use kinds::{Descriptor, Kind, PhysicalType, ValueOf, truncate_none_max, truncate_none_min};
+use kinds::{Kind, PhysicalType, ValueOf, truncate_none_max, truncate_none_min};
 use words::lend8;
 
 // INT64, signed.
@@ -22,14 +24,15 @@ impl Kind for Int64 {
 
     const HAS_NAN: bool = false;
 
-    fn descriptor() -> Descriptor {
-        Descriptor {
-            number: Self::NUMBER,
-            physical_type: Self::PHYSICAL_TYPE,
-            width: Self::WIDTH,
-            has_nan: Self::HAS_NAN,
-        }
-    }
+    ghost NUMBER = { 3 };
+
+    ghost PHYSICAL_TYPE = { Int64 };
+
+    ghost WIDTH = { Some 8 };
+
+    ghost HAS_NAN = { false };
+
+    ghost described = { Prim.search rules };
 
     fn is_nan(_value: &[u8]) -> bool {
         false
