@@ -12,16 +12,20 @@ pub trait Kind: Copy {
 
     // The kind's own number.
     const NUMBER: u8;
+
     ghost NUMBER: { ℕ };
 
     const PHYSICAL_TYPE: PhysicalType;
+
     ghost PHYSICAL_TYPE: { Physical };
 
     // Bytes of a value, 0 where each value has its own length, absent where each column has its own.
     const WIDTH: Option<usize>;
+
     ghost WIDTH: { Option ℕ };
 
     const HAS_NAN: bool;
+
     ghost HAS_NAN: { Bool };
 
     fn is_nan(value: &[u8]) -> bool
@@ -58,5 +62,7 @@ pub trait Kind: Copy {
 pub fn admits_width<K: Kind>(width: usize) -> bool
     ensures { result ≡ admitted K.Kind.meaning.width width }
 {
-    K::descriptor().width.map_or(1 <= width && width <= 128, |fixed| width == fixed)
+    K::descriptor()
+        .width
+        .map_or(1 <= width && width <= 128, |fixed| width == fixed)
 }
