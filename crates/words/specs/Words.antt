@@ -10,6 +10,14 @@ little i (suc k) v = slice_index v i + 256 * little (i + 1) k v
 abbrev pub word : ℕ → List ℕ → ℕ
 word k v = little 0 k v
 
+-- a value's first k bytes; one that is missing is 0
+abbrev pub first_from : ℕ → ℕ → List ℕ → List ℕ
+first_from i zero v = []
+first_from i (suc k) v = slice_index v i ∷ first_from (i + 1) k v
+
+abbrev pub first : ℕ → List ℕ → List ℕ
+first k v = first_from 0 k v
+
 -- a number's two and eight little-endian bytes
 abbrev pub two : ℕ → List ℕ
 two n = n % 256 ∷ n / 256 % 256 ∷ []
