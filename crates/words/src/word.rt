@@ -31,6 +31,7 @@ pub trait Word: Copy {
 }
 
 // A value's first bytes; one that is missing is 0.
+#[tactic(auto, using(crate::proofs::Firsts::is_first))]
 fn first<const N: usize>(value: &[u8]) -> [u8; N]
     ensures { result ≡ first N value.now }
 {
