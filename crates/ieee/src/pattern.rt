@@ -1,10 +1,12 @@
 ghost use Rattle.std.specs.Prelude.{◌≡◌, ℕ, ◌+◌, ◌-◌, ◌*◌, ◌^◌, ◌<◌, ◌≤◌};
-ghost use Rattle.std.proofs.Common.{refl, rules};
+ghost use Rattle.std.proofs.Common.{refl, lit<, lit≤};
 ghost use Rattle.ieee.specs.Formats.{Format, binary16, binary32, binary64};
 
 // A type whose values are the bit patterns of a format.
 pub trait Pattern: Copy {
     ghost format: { Format };
+
+    ghost some: { 0 < format.significand };
 
     // The number that a pattern is.
     ghost number: { Self → ℕ };
@@ -27,12 +29,12 @@ pub trait Pattern: Copy {
     ghost sign_fits_law: { SIGN + SIGN ≤ 2 ^ 64 };
 
     ghost infinity_law: { INFINITY ≡ (2 ^ format.exponent - 1) * 2 ^ format.significand };
-
-    ghost significand_law: { 0 < format.significand };
 }
 
 impl Pattern for u16 {
     ghost format = { binary16 };
+
+    ghost some = { lit< tt };
 
     ghost number = { λ n. n };
 
@@ -50,15 +52,15 @@ impl Pattern for u16 {
 
     ghost sign_law = { refl };
 
-    ghost sign_fits_law = { Prim.search rules };
+    ghost sign_fits_law = { lit≤ tt };
 
     ghost infinity_law = { refl };
-
-    ghost significand_law = { Prim.search rules };
 }
 
 impl Pattern for u32 {
     ghost format = { binary32 };
+
+    ghost some = { lit< tt };
 
     ghost number = { λ n. n };
 
@@ -76,15 +78,15 @@ impl Pattern for u32 {
 
     ghost sign_law = { refl };
 
-    ghost sign_fits_law = { Prim.search rules };
+    ghost sign_fits_law = { lit≤ tt };
 
     ghost infinity_law = { refl };
-
-    ghost significand_law = { Prim.search rules };
 }
 
 impl Pattern for u64 {
     ghost format = { binary64 };
+
+    ghost some = { lit< tt };
 
     ghost number = { λ n. n };
 
@@ -102,9 +104,7 @@ impl Pattern for u64 {
 
     ghost sign_law = { refl };
 
-    ghost sign_fits_law = { Prim.search rules };
+    ghost sign_fits_law = { lit≤ tt };
 
     ghost infinity_law = { refl };
-
-    ghost significand_law = { Prim.search rules };
 }

@@ -1,6 +1,6 @@
 ghost use Rattle.std.specs.Prelude.{◌≡◌, ℕ, ◌≤◌, List, length};
 ghost use Rattle.std.specs.Int.{w32, w64};
-ghost use Rattle.std.proofs.Common.{of_z, to_z, refl, rules};
+ghost use Rattle.std.proofs.Common.{of_z, to_z, refl, lit≤};
 ghost use Rattle.kinds.specs.Plain.{four};
 ghost use Rattle.words.specs.Words.{word, first, two, eight};
 
@@ -12,6 +12,8 @@ pub trait Word: Copy {
     ghost WIDTH: { ℕ };
 
     const WIDTH: usize;
+
+    ghost few: { WIDTH ≤ 8 };
 
     ghost bytes: { Self → List ℕ };
 
@@ -26,8 +28,6 @@ pub trait Word: Copy {
         ensures { result.now ≡ bytes self };
 
     ghost width_law: { (x : Self) → length (bytes x) ≡ WIDTH };
-
-    ghost few_law: { WIDTH ≤ 8 };
 }
 
 // A value's first bytes; one that is missing is 0.
@@ -46,6 +46,8 @@ impl Word for u16 {
 
     const WIDTH: usize = 2;
 
+    ghost few = { lit≤ tt };
+
     ghost bytes = { two };
 
     ghost of_bytes = { word 2 };
@@ -59,14 +61,14 @@ impl Word for u16 {
     }
 
     ghost width_law = { λ _. refl };
-
-    ghost few_law = { Prim.search rules };
 }
 
 impl Word for u32 {
     ghost WIDTH = { 4 };
 
     const WIDTH: usize = 4;
+
+    ghost few = { lit≤ tt };
 
     ghost bytes = { four };
 
@@ -81,14 +83,14 @@ impl Word for u32 {
     }
 
     ghost width_law = { λ _. refl };
-
-    ghost few_law = { Prim.search rules };
 }
 
 impl Word for u64 {
     ghost WIDTH = { 8 };
 
     const WIDTH: usize = 8;
+
+    ghost few = { lit≤ tt };
 
     ghost bytes = { eight };
 
@@ -103,14 +105,14 @@ impl Word for u64 {
     }
 
     ghost width_law = { λ _. refl };
-
-    ghost few_law = { Prim.search rules };
 }
 
 impl Word for i32 {
     ghost WIDTH = { 4 };
 
     const WIDTH: usize = 4;
+
+    ghost few = { lit≤ tt };
 
     ghost bytes = { λ x. four (of_z w32 x) };
 
@@ -125,14 +127,14 @@ impl Word for i32 {
     }
 
     ghost width_law = { λ _. refl };
-
-    ghost few_law = { Prim.search rules };
 }
 
 impl Word for i64 {
     ghost WIDTH = { 8 };
 
     const WIDTH: usize = 8;
+
+    ghost few = { lit≤ tt };
 
     ghost bytes = { λ x. eight (of_z w64 x) };
 
@@ -147,6 +149,4 @@ impl Word for i64 {
     }
 
     ghost width_law = { λ _. refl };
-
-    ghost few_law = { Prim.search rules };
 }
