@@ -1,5 +1,6 @@
 -- Numbers as the format's PLAIN encoding lays them down: little-endian, in two, four or eight bytes.
-use Rattle.std.specs.Prelude.{ℕ, zero, suc, ◌+◌, ◌*◌, ◌/◌, ◌%◌, List, [], ◌∷◌, slice_index}
+use Rattle.std.specs.Prelude.{ℕ, zero, suc, ◌≤◌, ◌+◌, ◌*◌, ◌/◌, ◌%◌, List, [], ◌∷◌, slice_index}
+use Rattle.std.proofs.Common.{le_trans, lit≤}
 
 -- the little-endian number of k bytes from a place on; a missing byte is 0
 abbrev pub little : ℕ → ℕ → List ℕ → ℕ
@@ -9,6 +10,10 @@ little i (suc k) v = slice_index v i + 256 * little (i + 1) k v
 -- the number of a value's first k bytes
 abbrev pub word : ℕ → List ℕ → ℕ
 word k v = little 0 k v
+
+-- a word is at most eight bytes, which every column may have
+pub few : {k : ℕ} → k ≤ 8 → k ≤ 128
+few h = le_trans h (lit≤ tt)
 
 -- a value's first k bytes; one that is missing is 0
 abbrev pub first_from : ℕ → ℕ → List ℕ → List ℕ
