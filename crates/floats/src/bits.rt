@@ -6,10 +6,13 @@ use kinds::ValueOf;
 #[derive(Clone, Copy, PartialEq, Eq, Debug)]
 pub struct Bits<B>(pub B);
 
+// A FLOAT value.
 pub type FloatBits = Bits<u32>;
 
+// A DOUBLE value.
 pub type DoubleBits = Bits<u64>;
 
+// A Float16 value.
 pub type Float16Bits = Bits<u16>;
 
 impl<B: Floating> ValueOf<FloatKind<B>> for Bits<B> {

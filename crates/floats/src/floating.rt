@@ -10,7 +10,7 @@ use ieee::Pattern;
 use kinds::PhysicalType;
 use words::Word;
 
-// A type of bit patterns that is the type of a kind's values.
+// A type of bit patterns whose values are those of a kind.
 pub trait Floating: Pattern + Word {
     // The kind's own number.
     const NUMBER: u8;

@@ -6,9 +6,9 @@ ghost use Rattle.ieee.specs.Formats.{Format, binary16, binary32, binary64};
 pub trait Pattern: Copy {
     ghost format: { Format };
 
+    // The significand has a bit to say that a NaN is quiet.
     ghost some: { 0 < format.significand };
 
-    // The number that a pattern is.
     ghost number: { Self → ℕ };
 
     // The weight of the sign bit.
@@ -21,6 +21,7 @@ pub trait Pattern: Copy {
 
     const INFINITY: u64;
 
+    // The pattern as a number, whichever type it has.
     fn number(self) -> u64
         ensures { result ≡ number self };
 

@@ -8,7 +8,8 @@ ghost use Rattle.kinds.specs.declared.physical.PhysicalType.{PhysicalType as Phy
 use kinds::PhysicalType;
 use words::Word;
 
-// A type of integers that is the type of a kind's values.
+// A type of integers whose values are those of a kind. `ValueOf` is another crate's, and an impl of it for every such
+// type at once would be for a bare parameter, which the language refuses; so each type has one.
 pub trait Integer: Word + Ord {
     // The kind's own number.
     const NUMBER: u8;

@@ -11,7 +11,7 @@ little i (suc k) v = slice_index v i + 256 * little (i + 1) k v
 abbrev pub word : ℕ → List ℕ → ℕ
 word k v = little 0 k v
 
--- a word is at most eight bytes, which every column may have
+-- eight bytes are within the 128 that a width may be
 pub few : {k : ℕ} → k ≤ 8 → k ≤ 128
 few h = le_trans h (lit≤ tt)
 

@@ -6,20 +6,23 @@ ghost use Rattle.words.specs.Words.{word, first, two, eight};
 
 use crate::room::lend;
 
-// A type of numbers as the format lays them down: in little-endian bytes.
+// A type of numbers as the format lays them down: in little-endian bytes. The language has the two conversions
+// for each type by itself, so each type has an impl.
 pub trait Word: Copy {
-    // How many bytes a number has.
+    // How many bytes a number has: at most eight, as there is room.
     ghost WIDTH: { ℕ };
 
     const WIDTH: usize;
 
     ghost few: { WIDTH ≤ 8 };
 
+    // The bytes of a number.
     ghost bytes: { Self → List ℕ };
 
-    // The number of a value's first bytes; one that is missing is 0.
+    // The number of a value's first bytes.
     ghost of_bytes: { List ℕ → Self };
 
+    // Reads the number of a value's first bytes; one that is missing is 0.
     fn read(value: &[u8]) -> Self
         ensures { result ≡ of_bytes value.now };
 
