@@ -5,6 +5,7 @@ use Rattle.std.proofs.Common.{Less, Equal, Greater, ap, sym, ◌∙◌, ⊎_elim
 use Rattle.std.proofs.lemmas.Bool.{cases_Bool, cases_order, lt-ltb, le-ltb, eq-eqb, ne_eqb}
 use Rattle.kinds.specs.Orders.{one_way_ℤ}
 
+-- a natural number is greater than another where `cmp` answers Greater
 pub greater_ℕ : (a b : ℕ) → nat_lt b a ≡ is_gt (nat_cmp a b)
 greater_ℕ a b =
     let by = λ (l : Bool) (e : Bool). is_gt (cond l Less (cond e Equal Greater)) in
@@ -15,6 +16,7 @@ greater_ℕ a b =
     (λ h. lt-ltb b a h ∙ sym (ap (λ l. by l (a == b)) (le-ltb a b (omega arith)) ∙ ap (by false) (ne_eqb a b (λ e. omega arith)))))
     (cases_order a b)
 
+-- and so an integer
 pub greater_ℤ : (a b : ℤ) → int_lt b a ≡ is_gt (int_cmp a b)
 greater_ℤ a b =
     let by = λ (l : Bool) (g : Bool). is_gt (cond l Less (cond g Greater Equal)) in

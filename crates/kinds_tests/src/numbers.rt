@@ -40,7 +40,7 @@ const HALVES: [u16; 12] = [
     0xFE00, 0xFC01, 0xFC00, 0xBC00, 0x8001, 0x8000, 0x0000, 0x0001, 0x3C00, 0x7C00, 0x7C01, 0x7E00,
 ];
 
-// Each pattern is greater than the one before it, and that one neither than it nor than itself.
+// Each pattern is greater than the one before it, which is greater neither than it nor than itself.
 fn rise<B: Floating>(rt: &impl Abort, patterns: &[B]) {
     for (low, high) in patterns.iter().zip(patterns.iter().skip(1)) {
         let mut low_room = [0; 8];

@@ -15,11 +15,12 @@ word k v = little 0 k v
 pub few : {k : ℕ} → k ≤ 8 → k ≤ 128
 few h = le_trans h (lit≤ tt)
 
--- a value's first k bytes; one that is missing is 0
+-- k bytes of a value from a place on; a missing byte is 0
 abbrev pub first_from : ℕ → ℕ → List ℕ → List ℕ
 first_from i zero v = []
 first_from i (suc k) v = slice_index v i ∷ first_from (i + 1) k v
 
+-- a value's first k bytes
 abbrev pub first : ℕ → List ℕ → List ℕ
 first k v = first_from 0 k v
 
