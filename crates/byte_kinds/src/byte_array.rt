@@ -1,6 +1,9 @@
+ghost use Rattle.std.specs.Prelude.{false, Some};
+ghost use Rattle.std.proofs.Common.{rules};
+ghost use Rattle.kinds.specs.declared.physical.PhysicalType.TheVariants.{ByteArray};
 ghost use Rattle.byte_kinds.specs.Kinds.{byte_array};
 
-use kinds::{Descriptor, Kind, PhysicalType, ValueOf};
+use kinds::{Kind, PhysicalType, ValueOf};
 
 // BYTE_ARRAY: 0 to 128 bytes, compared unsigned and cut as bytes.
 #[derive(Clone, Copy)]
@@ -17,14 +20,15 @@ impl Kind for ByteArray {
 
     const HAS_NAN: bool = false;
 
-    fn descriptor() -> Descriptor {
-        Descriptor {
-            number: Self::NUMBER,
-            physical_type: Self::PHYSICAL_TYPE,
-            width: Self::WIDTH,
-            has_nan: Self::HAS_NAN,
-        }
-    }
+    ghost NUMBER = { 8 };
+
+    ghost PHYSICAL_TYPE = { ByteArray };
+
+    ghost WIDTH = { Some 0 };
+
+    ghost HAS_NAN = { false };
+
+    ghost described = { Prim.search rules };
 
     fn is_nan(_value: &[u8]) -> bool {
         Self::HAS_NAN

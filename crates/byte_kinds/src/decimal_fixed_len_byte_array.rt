@@ -1,6 +1,9 @@
+ghost use Rattle.std.specs.Prelude.{false, None};
+ghost use Rattle.std.proofs.Common.{rules};
+ghost use Rattle.kinds.specs.declared.physical.PhysicalType.TheVariants.{FixedLenByteArray};
 ghost use Rattle.byte_kinds.specs.Kinds.{decimal_fixed_len_byte_array};
 
-use kinds::{Descriptor, Kind, PhysicalType, ValueOf};
+use kinds::{Kind, PhysicalType, ValueOf};
 
 // Decimal on FIXED_LEN_BYTE_ARRAY: compared as a number, and never cut.
 #[derive(Clone, Copy)]
@@ -17,14 +20,15 @@ impl Kind for DecimalFixedLenByteArray {
 
     const HAS_NAN: bool = false;
 
-    fn descriptor() -> Descriptor {
-        Descriptor {
-            number: Self::NUMBER,
-            physical_type: Self::PHYSICAL_TYPE,
-            width: Self::WIDTH,
-            has_nan: Self::HAS_NAN,
-        }
-    }
+    ghost NUMBER = { 12 };
+
+    ghost PHYSICAL_TYPE = { FixedLenByteArray };
+
+    ghost WIDTH = { None };
+
+    ghost HAS_NAN = { false };
+
+    ghost described = { Prim.search rules };
 
     fn is_nan(_value: &[u8]) -> bool {
         Self::HAS_NAN

@@ -1,6 +1,9 @@
+ghost use Rattle.std.specs.Prelude.{false, Some};
+ghost use Rattle.std.proofs.Common.{rules};
+ghost use Rattle.kinds.specs.declared.physical.PhysicalType.TheVariants.{ByteArray};
 ghost use Rattle.byte_kinds.specs.Kinds.{utf8_string};
 
-use kinds::{Descriptor, Kind, PhysicalType, ValueOf};
+use kinds::{Kind, PhysicalType, ValueOf};
 
 // String: a BYTE_ARRAY whose text is cut between characters.
 #[derive(Clone, Copy)]
@@ -17,14 +20,15 @@ impl Kind for Utf8String {
 
     const HAS_NAN: bool = false;
 
-    fn descriptor() -> Descriptor {
-        Descriptor {
-            number: Self::NUMBER,
-            physical_type: Self::PHYSICAL_TYPE,
-            width: Self::WIDTH,
-            has_nan: Self::HAS_NAN,
-        }
-    }
+    ghost NUMBER = { 10 };
+
+    ghost PHYSICAL_TYPE = { ByteArray };
+
+    ghost WIDTH = { Some 0 };
+
+    ghost HAS_NAN = { false };
+
+    ghost described = { Prim.search rules };
 
     fn is_nan(_value: &[u8]) -> bool {
         Self::HAS_NAN

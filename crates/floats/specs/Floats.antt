@@ -1,6 +1,6 @@
 -- FLOAT, DOUBLE and Float16 by their little-endian bit patterns, in IEEE 754's total order.
 use Rattle.std.specs.Prelude.{◌≡◌, ℕ, ◌<◌, ◌≤◌, true, false, ◌⊎◌, Some}
-use Rattle.std.proofs.Common.{sym, ◌∙◌, inl, inr, ⊎_elim, arith}
+use Rattle.std.proofs.Common.{sym, ◌∙◌, inl, inr, ⊎_elim, lit<, lit≤}
 use Rattle.std.proofs.lemmas.Bool.{true≢false}
 use Rattle.ieee.specs.Formats.{Format, binary16, binary32, binary64, datum, is_nan}
 use Rattle.ieee.specs.TotalOrder.{above, rank}
@@ -8,7 +8,7 @@ use Rattle.ieee.proofs.Ranks.{above-rank}
 use Rattle.kinds.specs.Orders.{Order, one_way_ℕ, splits_ℕ}
 use Rattle.kinds.specs.Cuts.{uncut}
 use Rattle.kinds.specs.Meaning.{Meaning, fixed_few}
-use Rattle.words.specs.Words.{word}
+use Rattle.words.specs.Words.{word, few}
 
 pub one_way : (f : Format) → 0 < f.significand → (a b : ℕ) → above f a b ≡ true → above f b a ≡ false
 one_way f some a b h = above-rank f some b a ∙ one_way_ℕ (rank f a) (rank f b) (sym (above-rank f some a b) ∙ h)
@@ -41,10 +41,10 @@ floating n p k few f some = record {
 }
 
 abbrev pub float : Meaning
-float = floating 5 4 4 (omega arith) binary32 (omega arith)
+float = floating 5 4 4 (few (lit≤ tt)) binary32 (lit< tt)
 
 abbrev pub double : Meaning
-double = floating 6 5 8 (omega arith) binary64 (omega arith)
+double = floating 6 5 8 (few (lit≤ tt)) binary64 (lit< tt)
 
 abbrev pub float16 : Meaning
-float16 = floating 7 7 2 (omega arith) binary16 (omega arith)
+float16 = floating 7 7 2 (few (lit≤ tt)) binary16 (lit< tt)

@@ -1,40 +1,55 @@
-ghost use Rattle.kinds.specs.Plain.{four};
-ghost use Rattle.floats.specs.Floats.{float};
+ghost use Rattle.std.specs.Prelude.{true, Some};
+ghost use Rattle.std.proofs.Common.{rules};
+ghost use Rattle.kinds.specs.Meaning.{thrift};
+ghost use Rattle.words.specs.Words.{few};
+ghost use Rattle.floats.specs.Floats.{floating};
 
-use ieee::{is_nan_f32, total_greater_f32};
-use kinds::{Descriptor, Kind, PhysicalType, ValueOf, truncate_none_max, truncate_none_min};
-use words::{lend4, word4};
+use crate::floating::Floating;
+use ieee::{is_nan, total_greater};
+use kinds::{Kind, PhysicalType, truncate_none_max, truncate_none_min};
+use std::marker::PhantomData;
 
-// FLOAT: binary32 patterns in the total order.
+// The kind of the bit patterns of a type, in the total order.
 #[derive(Clone, Copy)]
-pub struct Float;
+pub struct FloatKind<B>(pub PhantomData<B>);
 
-impl Kind for Float {
-    ghost meaning = { float };
+// FLOAT: binary32 patterns.
+pub type Float = FloatKind<u32>;
 
-    const NUMBER: u8 = 5;
+// DOUBLE: binary64 patterns.
+pub type Double = FloatKind<u64>;
 
-    const PHYSICAL_TYPE: PhysicalType = PhysicalType::Float;
+// Float16: binary16 patterns in two bytes of FIXED_LEN_BYTE_ARRAY.
+pub type Float16 = FloatKind<u16>;
 
-    const WIDTH: Option<usize> = Some(4);
+impl<B: Floating> Kind for FloatKind<B> {
+    // It is the meaning that B gives, by its law.
+    ghost meaning = { floating B.NUMBER (thrift B.PHYSICAL_TYPE) B.WIDTH (few B.few) B.format B.some };
+
+    const NUMBER: u8 = B::NUMBER;
+
+    const PHYSICAL_TYPE: PhysicalType = B::PHYSICAL_TYPE;
+
+    const WIDTH: Option<usize> = Some(B::WIDTH);
 
     const HAS_NAN: bool = true;
 
-    fn descriptor() -> Descriptor {
-        Descriptor {
-            number: Self::NUMBER,
-            physical_type: Self::PHYSICAL_TYPE,
-            width: Self::WIDTH,
-            has_nan: Self::HAS_NAN,
-        }
-    }
+    ghost NUMBER = { B.NUMBER };
+
+    ghost PHYSICAL_TYPE = { B.PHYSICAL_TYPE };
+
+    ghost WIDTH = { Some B.WIDTH };
+
+    ghost HAS_NAN = { true };
+
+    ghost described = { Prim.search rules };
 
     fn is_nan(value: &[u8]) -> bool {
-        is_nan_f32(word4(value))
+        is_nan(B::read(value))
     }
 
     fn compare_greater(a: &[u8], b: &[u8]) -> bool {
-        total_greater_f32(word4(a), word4(b))
+        total_greater(B::read(a), B::read(b))
     }
 
     fn truncate_min_value(value: &[u8], _length: usize) -> (usize, bool) {
@@ -43,17 +58,5 @@ impl Kind for Float {
 
     fn truncate_max_value(value: &mut [u8], _length: usize) -> (usize, bool) {
         truncate_none_max(value)
-    }
-}
-
-// A FLOAT value, by its bit pattern: NaN has many.
-#[derive(Clone, Copy, PartialEq, Eq, Debug)]
-pub struct FloatBits(pub u32);
-
-impl ValueOf<Float> for FloatBits {
-    ghost bytes = { λ v. four v.0 };
-
-    fn as_bytes<'a>(&'a self, room: &'a mut [u8; 8]) -> &'a [u8] {
-        lend4(self.0.to_le_bytes(), room)
     }
 }

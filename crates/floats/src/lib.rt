@@ -2,10 +2,10 @@
 
 #![tactic(auto)]
 
-mod double_kind;
-mod float16_kind;
+mod bits;
 mod float_kind;
+mod floating;
 
-pub use double_kind::{Double, DoubleBits};
-pub use float_kind::{Float, FloatBits};
-pub use float16_kind::{Float16, Float16Bits};
+pub use bits::{Bits, DoubleBits, Float16Bits, FloatBits};
+pub use float_kind::{Double, Float, Float16, FloatKind};
+pub use floating::Floating;

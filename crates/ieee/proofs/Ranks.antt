@@ -1,6 +1,7 @@
 -- The total order of data is the order of their ranks: negative below positive, and within a sign as the bits
 -- below it rise or fall.
-use Rattle.std.proofs.Common.{◌≡◌, ℕ, zero, suc, ◌+◌, ◌-◌, ◌*◌, ◌/◌, ◌%◌, ◌^◌, ◌<◌, Bool, true, false, cond, not, eqb, ltb, pos, neg_ℤ, sym, refl, ap, ◌∙◌, subst, ⊎_elim, arith}
+use Rattle.std.proofs.Common.{◌≡◌, ℕ, zero, suc, ◌+◌, ◌-◌, ◌*◌, ◌/◌, ◌%◌, ◌^◌, ◌<◌, Bool, true, false, cond, not, eqb, ltb, pos, neg_ℤ, sym, refl, ap, ◌∙◌, subst, ⊎_elim, leb, mod-eq_of_lt, arith}
+use native.Mathlib.Nat.{div-eq_of_lt}
 use lib.Signed.{lt_z}
 use Rattle.std.proofs.lemmas.Nat.{pow_pos, mod-pow-add, mod_below}
 use Rattle.std.proofs.lemmas.Bool.{cases_Bool, cases_lt, eq-eqb, ne_eqb, lt-ltb, le-ltb, cases_eq}
@@ -163,6 +164,11 @@ module _ (f : Format) (some : 0 < f.significand) where
       (low_few a) (low_few b)
       ∙ ap (λ l. ltb (rank_of (negative f b) l) (rank_of (negative f a) (low f (biased f a) (trailing f a)))) (sym (low_is b))
       ∙ ap (λ l. ltb (rank f b) (rank_of (negative f a) l)) (sym (low_is a))
+
+  -- the rank of a pattern without the sign
+  pub rank_low : (n : ℕ) → n < span → rank f n ≡ span + n
+  rank_low n h =
+      ap (λ q. cond (leb 1 q) (span - 1 - n % span) (span + n % span)) (div-eq_of_lt h) ∙ ap (λ m. span + m) (mod-eq_of_lt h)
 
   nan_by : (s : Bool) (e t : ℕ) (x : Datum) → t < 2 ^ f.significand → Shape f s e t x
       → is_nan x ≡ ltb (low f (2 ^ f.exponent - 1) 0) (low f e t)

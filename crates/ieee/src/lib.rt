@@ -1,9 +1,11 @@
-// IEEE 754 data by their bit patterns: the total order and NaN of binary16, binary32 and binary64.
+// IEEE 754 data by their bit patterns: the total order and NaN, over the format.
 
 #![tactic(auto)]
 
 mod nan;
+mod pattern;
 mod total;
 
-pub use nan::{is_nan_f16, is_nan_f32, is_nan_f64};
-pub use total::{total_greater_f16, total_greater_f32, total_greater_f64};
+pub use nan::is_nan;
+pub use pattern::Pattern;
+pub use total::total_greater;

@@ -2,13 +2,10 @@
 
 #![tactic(auto)]
 
-mod int32_kind;
-mod int64_kind;
+mod int_kind;
+mod integer;
 mod signed;
-mod uint32_kind;
-mod uint64_kind;
+mod unsigned;
 
-pub use int32_kind::Int32;
-pub use int64_kind::Int64;
-pub use uint32_kind::UInt32;
-pub use uint64_kind::UInt64;
+pub use int_kind::{Int32, Int64, IntKind, UInt32, UInt64};
+pub use integer::Integer;

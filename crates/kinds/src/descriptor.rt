@@ -1,7 +1,7 @@
 use crate::physical::PhysicalType;
 
 // What is fixed for a kind before any column has it.
-#[derive(Clone, Copy)]
+#[derive(Clone, Copy, PartialEq, Eq, Debug)]
 pub struct Descriptor {
     // the kind's own number
     pub number: u8,

@@ -1,6 +1,7 @@
-ghost use Rattle.std.specs.Prelude.{◌≡◌};
+ghost use Rattle.std.specs.Prelude.{◌≡◌, ℕ, Bool, Option};
 ghost use Rattle.kinds.specs.Cuts.{CutBelow, CutAbove};
 ghost use Rattle.kinds.specs.Meaning.{Meaning, Describes, admitted, greater};
+ghost use Rattle.kinds.specs.declared.physical.PhysicalType.{PhysicalType as Physical};
 
 use crate::descriptor::Descriptor;
 use crate::physical::PhysicalType;
@@ -9,16 +10,23 @@ use crate::physical::PhysicalType;
 pub trait Kind: Copy {
     ghost meaning: { Meaning };
 
+    // The kind's own number.
     const NUMBER: u8;
+
+    ghost NUMBER: { ℕ };
 
     const PHYSICAL_TYPE: PhysicalType;
 
+    ghost PHYSICAL_TYPE: { Physical };
+
+    // Bytes of a value, 0 where each value has its own length, absent where each column has its own.
     const WIDTH: Option<usize>;
+
+    ghost WIDTH: { Option ℕ };
 
     const HAS_NAN: bool;
 
-    fn descriptor() -> Descriptor
-        ensures { Describes meaning result };
+    ghost HAS_NAN: { Bool };
 
     fn is_nan(value: &[u8]) -> bool
         ensures { result ≡ meaning.nan value.now };
@@ -33,14 +41,28 @@ pub trait Kind: Copy {
     // Puts the upper bound of a value at the length in its place, and answers its length and whether it was cut.
     fn truncate_max_value(value: &mut [u8], length: usize) -> (usize, bool)
         ensures { CutAbove (meaning.cuts.upper length value.old) value.old value.new result };
+
+    // What the constants say of the kind.
+    final fn descriptor() -> Descriptor
+        ensures { Describes meaning result }
+    {
+        Descriptor {
+            number: Self::NUMBER,
+            physical_type: Self::PHYSICAL_TYPE,
+            width: Self::WIDTH,
+            has_nan: Self::HAS_NAN,
+        }
+    }
+
+    // The constants are those of the meaning.
+    ghost described: { Describes meaning (record { number = NUMBER; physical_type = PHYSICAL_TYPE; width = WIDTH; has_nan = HAS_NAN }) };
 }
 
 // Whether a column of the kind may have the width.
 pub fn admits_width<K: Kind>(width: usize) -> bool
     ensures { result ≡ admitted K.Kind.meaning.width width }
 {
-    match K::descriptor().width {
-        Some(fixed) => width == fixed,
-        None => 1 <= width && width <= 128,
-    }
+    K::descriptor()
+        .width
+        .map_or(1 <= width && width <= 128, |fixed| width == fixed)
 }

@@ -3,26 +3,23 @@ ghost use Rattle.std.proofs.Common.{of_z};
 ghost use Rattle.kinds.specs.Plain.{four};
 
 use figures::{get_min_max, update_max, update_min};
-use floats::{Float, FloatBits};
+use floats::{Bits, Float, FloatBits};
 use ints::Int32;
 use kinds::ValueOf;
 use std::test::Fail;
-use words::lend4;
+use words::Word;
 
-const NAN: FloatBits = FloatBits(0x7FC0_0000);
+const NAN: FloatBits = Bits(0x7FC0_0000);
 
-const LOW_NAN: FloatBits = FloatBits(0xFFC0_0000);
+const LOW_NAN: FloatBits = Bits(0xFFC0_0000);
 
-const ONE: FloatBits = FloatBits(0x3F80_0000);
+const ONE: FloatBits = Bits(0x3F80_0000);
 
-const TWO: FloatBits = FloatBits(0x4000_0000);
+const TWO: FloatBits = Bits(0x4000_0000);
 
 // The smallest and the largest of FLOAT values, and how many are NaN.
 fn figures(values: &[FloatBits]) -> Option<(FloatBits, FloatBits, u64)> {
-    match get_min_max::<Float, FloatBits>(values) {
-        None => None,
-        Some(f) => Some((f.min, f.max, f.nan_count)),
-    }
+    get_min_max::<Float, FloatBits>(values).map(|f| (f.min, f.max, f.nan_count))
 }
 
 #[test]
@@ -36,8 +33,8 @@ fn nan_gives_way(rt: HostRuntime) {
 
 #[test]
 fn zeros_differ(rt: HostRuntime) {
-    let plus = FloatBits(0);
-    let minus = FloatBits(0x8000_0000);
+    let plus = Bits(0);
+    let minus = Bits(0x8000_0000);
     assert_eq!(rt; figures(&[plus, minus]), Some((minus, plus, 0)));
 }
 
@@ -55,13 +52,9 @@ fn one_value_more(rt: HostRuntime) {
 
 #[test]
 fn integers(rt: HostRuntime) -> Result<(), Fail> {
-    match get_min_max::<Int32, i32>(&[3, -7, 12, -7, 12]) {
-        None => Err(Fail::new("five values have figures")),
-        Some(f) => {
-            assert!(rt; f.min == -7 && f.max == 12 && f.nan_count == 0);
-            Ok(())
-        },
-    }
+    let f = get_min_max::<Int32, i32>(&[3, -7, 12, -7, 12]).ok_or("five values have figures")?;
+    assert_eq!(rt; (f.min, f.max, f.nan_count), (-7, 12, 0));
+    Ok(())
 }
 
 // A number with a mark that its bytes do not show, so that equal values can be told apart.
@@ -75,7 +68,7 @@ impl ValueOf<Int32> for Marked {
     ghost bytes = { λ v. four (of_z w32 v.value) };
 
     fn as_bytes<'a>(&'a self, room: &'a mut [u8; 8]) -> &'a [u8] {
-        lend4(self.value.to_le_bytes(), room)
+        self.value.lend(room)
     }
 }
 
@@ -85,16 +78,13 @@ fn with_mark(value: i32, mark: u8) -> Marked {
 
 #[test]
 fn first_of_equals(rt: HostRuntime) -> Result<(), Fail> {
-    match get_min_max::<Int32, Marked>(&[
+    let f = get_min_max::<Int32, Marked>(&[
         with_mark(4, 1),
         with_mark(2, 2),
         with_mark(4, 3),
         with_mark(2, 4),
-    ]) {
-        None => Err(Fail::new("four values have figures")),
-        Some(f) => {
-            assert!(rt; f.min.mark == 2 && f.max.mark == 1);
-            Ok(())
-        },
-    }
+    ])
+    .ok_or("four values have figures")?;
+    assert_eq!(rt; (f.min.mark, f.max.mark), (2, 1));
+    Ok(())
 }

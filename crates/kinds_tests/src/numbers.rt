@@ -1,6 +1,7 @@
-use floats::{Double, Float, Float16};
+use floats::{Double, Float, Float16, FloatKind, Floating};
 use ints::{Int32, Int64, UInt32, UInt64};
 use kinds::{Kind, PhysicalType, ValueOf};
+use std::process::Abort;
 
 // From the greatest negative NaN through infinities, subnormals and both zeros to the greatest NaN.
 const FLOATS: [u32; 14] = [
@@ -39,35 +40,32 @@ const HALVES: [u16; 12] = [
     0xFE00, 0xFC01, 0xFC00, 0xBC00, 0x8001, 0x8000, 0x0000, 0x0001, 0x3C00, 0x7C00, 0x7C01, 0x7E00,
 ];
 
+// Each pattern is greater than the one before it, which is greater neither than it nor than itself.
+fn rise<B: Floating>(rt: &impl Abort, patterns: &[B]) {
+    for (low, high) in patterns.iter().zip(patterns.iter().skip(1)) {
+        let mut low_room = [0; 8];
+        let mut high_room = [0; 8];
+        let low = low.lend(&mut low_room);
+        let high = high.lend(&mut high_room);
+        assert!(rt; FloatKind::<B>::compare_greater(high, low));
+        assert!(rt; !FloatKind::<B>::compare_greater(low, high));
+        assert!(rt; !FloatKind::<B>::compare_greater(low, low));
+    }
+}
+
 #[test]
 fn floats_rise(rt: HostRuntime) {
-    for i in 0..13 {
-        let low = FLOATS[i].to_le_bytes();
-        let high = FLOATS[i + 1].to_le_bytes();
-        assert!(rt; Float::compare_greater(&high, &low));
-        assert!(rt; !Float::compare_greater(&low, &high));
-        assert!(rt; !Float::compare_greater(&low, &low));
-    }
+    rise(&rt, &FLOATS);
 }
 
 #[test]
 fn doubles_rise(rt: HostRuntime) {
-    for i in 0..11 {
-        let low = DOUBLES[i].to_le_bytes();
-        let high = DOUBLES[i + 1].to_le_bytes();
-        assert!(rt; Double::compare_greater(&high, &low));
-        assert!(rt; !Double::compare_greater(&low, &high));
-    }
+    rise(&rt, &DOUBLES);
 }
 
 #[test]
 fn halves_rise(rt: HostRuntime) {
-    for i in 0..11 {
-        let low = HALVES[i].to_le_bytes();
-        let high = HALVES[i + 1].to_le_bytes();
-        assert!(rt; Float16::compare_greater(&high, &low));
-        assert!(rt; !Float16::compare_greater(&low, &high));
-    }
+    rise(&rt, &HALVES);
 }
 
 #[test]

@@ -13,7 +13,7 @@ pub use verdict::{Verdict, judge};
 #[cfg(test)]
 mod tests {
     use super::*;
-    use floats::DoubleBits;
+    use floats::Bits;
 
     fn hold(line: &str) -> Result<Hold, BadRow> {
         match read_row(line) {
@@ -26,12 +26,12 @@ mod tests {
     fn reads_rows(rt: HostRuntime) {
         assert_eq!(rt;
             hold("06:15:30,V1,72.5"),
-            Ok(Hold::Measured(DoubleBits(0x4052_2000_0000_0000)))
+            Ok(Hold::Measured(Bits(0x4052_2000_0000_0000)))
         );
         assert_eq!(rt; hold("23:59:59,V1,"), Ok(Hold::Missing));
         assert_eq!(rt;
             hold("00:00:00,V1,nan"),
-            Ok(Hold::Measured(DoubleBits(0x7FF8_0000_0000_0000)))
+            Ok(Hold::Measured(Bits(0x7FF8_0000_0000_0000)))
         );
     }
 
@@ -49,10 +49,10 @@ mod tests {
 
     #[test]
     fn judges(rt: HostRuntime) {
-        let limit = DoubleBits(0x4052_0000_0000_0000);
-        let above = DoubleBits(0x4052_2000_0000_0000);
-        let below = DoubleBits(0x4051_F000_0000_0000);
-        let nan = DoubleBits(0x7FF8_0000_0000_0000);
+        let limit = Bits(0x4052_0000_0000_0000);
+        let above = Bits(0x4052_2000_0000_0000);
+        let below = Bits(0x4051_F000_0000_0000);
+        let nan = Bits(0x7FF8_0000_0000_0000);
         assert_eq!(rt;
             judge(&[above, limit, nan], limit).decision,
             Decision::Released

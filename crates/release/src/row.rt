@@ -1,4 +1,4 @@
-use floats::DoubleBits;
+use floats::{Bits, DoubleBits};
 use std::fmt;
 use std::num::f64_to_bits_with_nan;
 
@@ -69,7 +69,7 @@ fn read_hold(cell: &str) -> Result<Hold, BadRow> {
     if !degrees.is_finite() && cell != "nan" {
         return Err(BadRow::Hold);
     }
-    Ok(Hold::Measured(DoubleBits(f64_to_bits_with_nan(degrees))))
+    Ok(Hold::Measured(Bits(f64_to_bits_with_nan(degrees))))
 }
 
 // Hours, minutes and seconds in two digits each.

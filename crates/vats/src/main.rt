@@ -5,7 +5,7 @@
 #![tactic(auto)]
 
 use anyhow::anyhow;
-use floats::DoubleBits;
+use floats::{Bits, DoubleBits};
 use release::read_row;
 use std::collections::BTreeMap;
 use std::env;
@@ -22,7 +22,7 @@ fn limit(rt: &HostRuntime) -> anyhow::Result<DoubleBits> {
     let mut args = env::args(rt)?;
     let _program = args.next();
     let Some(text) = args.next() else {
-        return Ok(DoubleBits(f64_to_bits_with_nan(72.0)));
+        return Ok(Bits(f64_to_bits_with_nan(72.0)));
     };
     let Ok(degrees) = text.as_str().parse::<f64>() else {
         return Err(anyhow!("the limit: expected degrees Celsius such as 72.0"));
@@ -30,7 +30,7 @@ fn limit(rt: &HostRuntime) -> anyhow::Result<DoubleBits> {
     if !degrees.is_finite() {
         return Err(anyhow!("the limit: expected degrees Celsius such as 72.0"));
     }
-    Ok(DoubleBits(f64_to_bits_with_nan(degrees)))
+    Ok(Bits(f64_to_bits_with_nan(degrees)))
 }
 
 fn read_day(rt: &HostRuntime) -> anyhow::Result<day::Day> {

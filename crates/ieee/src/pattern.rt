@@ -1,0 +1,111 @@
+ghost use Rattle.std.specs.Prelude.{◌≡◌, ℕ, ◌+◌, ◌-◌, ◌*◌, ◌^◌, ◌<◌, ◌≤◌};
+ghost use Rattle.std.proofs.Common.{refl, lit<, lit≤};
+ghost use Rattle.ieee.specs.Formats.{Format, binary16, binary32, binary64};
+
+// A type whose values are the bit patterns of a format.
+pub trait Pattern: Copy {
+    ghost format: { Format };
+
+    // The significand has a bit to say that a NaN is quiet.
+    ghost some: { 0 < format.significand };
+
+    ghost number: { Self → ℕ };
+
+    // The weight of the sign bit.
+    ghost SIGN: { ℕ };
+
+    const SIGN: u64;
+
+    // The pattern of infinity: an exponent of ones, and nothing behind it.
+    ghost INFINITY: { ℕ };
+
+    const INFINITY: u64;
+
+    // The pattern as a number, whichever type it has.
+    fn number(self) -> u64
+        ensures { result ≡ number self };
+
+    ghost sign_law: { SIGN ≡ 2 ^ (format.exponent + format.significand) };
+
+    ghost sign_fits_law: { SIGN + SIGN ≤ 2 ^ 64 };
+
+    ghost infinity_law: { INFINITY ≡ (2 ^ format.exponent - 1) * 2 ^ format.significand };
+}
+
+impl Pattern for u16 {
+    ghost format = { binary16 };
+
+    ghost some = { lit< tt };
+
+    ghost number = { λ n. n };
+
+    ghost SIGN = { 2 ^ 15 };
+
+    const SIGN: u64 = 0x8000;
+
+    ghost INFINITY = { 31 * 2 ^ 10 };
+
+    const INFINITY: u64 = 0x7C00;
+
+    fn number(self) -> u64 {
+        u64::from(self)
+    }
+
+    ghost sign_law = { refl };
+
+    ghost sign_fits_law = { lit≤ tt };
+
+    ghost infinity_law = { refl };
+}
+
+impl Pattern for u32 {
+    ghost format = { binary32 };
+
+    ghost some = { lit< tt };
+
+    ghost number = { λ n. n };
+
+    ghost SIGN = { 2 ^ 31 };
+
+    const SIGN: u64 = 0x8000_0000;
+
+    ghost INFINITY = { 255 * 2 ^ 23 };
+
+    const INFINITY: u64 = 0x7F80_0000;
+
+    fn number(self) -> u64 {
+        u64::from(self)
+    }
+
+    ghost sign_law = { refl };
+
+    ghost sign_fits_law = { lit≤ tt };
+
+    ghost infinity_law = { refl };
+}
+
+impl Pattern for u64 {
+    ghost format = { binary64 };
+
+    ghost some = { lit< tt };
+
+    ghost number = { λ n. n };
+
+    ghost SIGN = { 2 ^ 63 };
+
+    const SIGN: u64 = 0x8000_0000_0000_0000;
+
+    ghost INFINITY = { 2047 * 2 ^ 52 };
+
+    const INFINITY: u64 = 0x7FF0_0000_0000_0000;
+
+    fn number(self) -> u64 {
+        self
+    }
+
+    ghost sign_law = { refl };
+
+    ghost sign_fits_law = { lit≤ tt };
+
+    ghost infinity_law = { refl };
+}

@@ -1,0 +1,64 @@
+ghost use Rattle.std.specs.Prelude.{false, Some};
+ghost use Rattle.std.proofs.Common.{rules};
+ghost use Rattle.kinds.specs.Meaning.{thrift};
+ghost use Rattle.ints.specs.Ints.{integers};
+ghost use Rattle.words.specs.Words.{few};
+
+use crate::integer::Integer;
+use kinds::{Kind, PhysicalType, truncate_none_max, truncate_none_min};
+use std::marker::PhantomData;
+
+// The kind of the integers of a type, in their order.
+#[derive(Clone, Copy)]
+pub struct IntKind<T>(pub PhantomData<T>);
+
+// INT32, signed.
+pub type Int32 = IntKind<i32>;
+
+// INT32, unsigned.
+pub type UInt32 = IntKind<u32>;
+
+// INT64, signed.
+pub type Int64 = IntKind<i64>;
+
+// INT64, unsigned.
+pub type UInt64 = IntKind<u64>;
+
+impl<T: Integer> Kind for IntKind<T> {
+    // It is the meaning that T gives, by its law.
+    ghost meaning = { integers T.NUMBER (thrift T.PHYSICAL_TYPE) T.WIDTH (few T.few) T.meaning.order };
+
+    const NUMBER: u8 = T::NUMBER;
+
+    const PHYSICAL_TYPE: PhysicalType = T::PHYSICAL_TYPE;
+
+    const WIDTH: Option<usize> = Some(T::WIDTH);
+
+    const HAS_NAN: bool = false;
+
+    ghost NUMBER = { T.NUMBER };
+
+    ghost PHYSICAL_TYPE = { T.PHYSICAL_TYPE };
+
+    ghost WIDTH = { Some T.WIDTH };
+
+    ghost HAS_NAN = { false };
+
+    ghost described = { Prim.search rules };
+
+    fn is_nan(_value: &[u8]) -> bool {
+        false
+    }
+
+    fn compare_greater(a: &[u8], b: &[u8]) -> bool {
+        T::read(a) > T::read(b)
+    }
+
+    fn truncate_min_value(value: &[u8], _length: usize) -> (usize, bool) {
+        truncate_none_min(value)
+    }
+
+    fn truncate_max_value(value: &mut [u8], _length: usize) -> (usize, bool) {
+        truncate_none_max(value)
+    }
+}
