@@ -1,10 +1,11 @@
 -- Figures of joined lists follow from those of the parts: NaN is put behind the numbers, and what is then an
 -- order again has its lowest member found step by step.
-use Rattle.std.proofs.Common.{◌≡◌, ℕ, ◌+◌, Bool, true, false, cond, not, ◌||◌, ◌⊎◌, List, [], ◌∷◌, ◌++◌, Some, None, Option, sym, refl, ap, ◌∙◌, inl, inr, ⊎_elim, add_assoc, zero-add}
+use Rattle.std.proofs.Common.{◌≡◌, ℕ, ◌+◌, Bool, true, false, cond, not, ◌||◌, ◌⊎◌, List, [], ◌∷◌, ◌++◌, Some, None, Option, IsTrue, MatchOption, sym, refl, ap, ◌∙◌, inl, inr, ⊎_elim, add_assoc, zero-add}
+use Rattle.std.specs.Option.{option_map}
 use Rattle.std.proofs.lemmas.Bool.{cases_Bool, or_parts, or_cases, or_left, or_right, not-true, not-false, false≢true}
 use Rattle.kinds.specs.Meaning.{Meaning, greater}
 use Rattle.figures.specs.Figures.{any, keep, first, count, lowest, smallest, largest, replaces, merged, lesser, higher, Joins, MinUpdated, MaxUpdated}
-use Rattle.figures.proofs.Lowest.{Test, Weak, picked, lowest-append, irreflexive}
+use Rattle.figures.proofs.Lowest.{Test, Weak, picked, lowest-append, lowest-none, irreflexive}
 
 module _ (nan : List ℕ → Bool) (above : Test) where
   -- a number is never above NaN, and NaN above every number
@@ -151,6 +152,16 @@ smallest_one m = lowest-one m.nan (λ v u. greater m v u) (weak_greater m)
 pub largest_one : (m : Meaning) (v : List ℕ) → largest m (v ∷ []) ≡ Some v
 largest_one m = lowest-one m.nan (λ v u. greater m u v) (weak_less m)
 
+pub smallest-none : (m : Meaning) (vs : List (List ℕ)) → smallest m vs ≡ None → vs ≡ []
+smallest-none m vs e =
+    lowest-none (behind m.nan (λ v u. greater m v u)) (weak_behind m.nan (λ v u. greater m v u) (weak_greater m)) vs
+    (sym (lowest_behind m.nan (λ v u. greater m v u) vs) ∙ e)
+
+pub largest-none : (m : Meaning) (vs : List (List ℕ)) → largest m vs ≡ None → vs ≡ []
+largest-none m vs e =
+    lowest-none (behind m.nan (λ v u. greater m u v)) (weak_behind m.nan (λ v u. greater m u v) (weak_less m)) vs
+    (sym (lowest_behind m.nan (λ v u. greater m u v) vs) ∙ e)
+
 pub count-joined : (p : List ℕ → Bool) (xs ys : List (List ℕ)) → count p (xs ++ ys) ≡ count p xs + count p ys
 count-joined p [] ys = sym (zero-add (count p ys))
 count-joined p (x ∷ xs) ys = ap (λ n. cond (p x) 1 0 + n) (count-joined p xs ys) ∙ sym (add_assoc (cond (p x) 1 0) (count p xs) (count p ys))
@@ -163,6 +174,16 @@ joins m = record {
   smallest_one = smallest_one m;
   largest_one = largest_one m;
 }
+
+-- a figure that is updated where the value takes its place is the one merged with that of the value
+pub merged_by : {V : Type 0} (bytes : V → List ℕ) (v : V) (nan : List ℕ → Bool) (above : Test) (old : Option V) (b : Bool) (P : V → Type 0)
+    → ((o : V) → P o → b ≡ replaces (nan (bytes o)) (nan (bytes v)) (above (bytes o) (bytes v)))
+    → MatchOption old (IsTrue b) P
+    → option_map bytes (cond b (Some v) old) ≡ merged nan above (option_map bytes old) (Some (bytes v))
+merged_by bytes v nan above None true P p h = refl
+merged_by bytes v nan above None false P p h = absurd (false≢true h)
+merged_by bytes v nan above (Some o) true P p h = ap (λ t. Some (cond t (bytes v) (bytes o))) (p o h)
+merged_by bytes v nan above (Some o) false P p h = ap (λ t. Some (cond t (bytes v) (bytes o))) (p o h)
 
 pub min_updated : (m : Meaning) (old : Option (List ℕ)) (v : List ℕ) (new : Option (List ℕ)) → new ≡ lesser m old (Some v) → MinUpdated m old v new
 min_updated m old v new e = record {

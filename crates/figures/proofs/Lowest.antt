@@ -100,6 +100,13 @@ module _ (above : Test) (weak : Weak above) where
       let e : lowest above (x ∷ xs) ≡ Some some.0 = lowest-cons x xs ∙ some.1 in
       step v some.0 (x ∷ xs) e ∙ ap (λ o. picked above (Some v) o) (sym e)
 
+  -- a list without a lowest member is empty
+  pub lowest-none : (vs : List (List ℕ)) → lowest above vs ≡ None → vs ≡ []
+  lowest-none [] e = refl
+  lowest-none (v ∷ vs) e =
+      let some = picked_some v (lowest above vs) in
+      absurd (none_some some.0 (sym e ∙ lowest-cons v vs ∙ some.1))
+
   picked_three : (a b c : List ℕ) → picked above (picked above (Some a) (Some b)) (Some c) ≡ picked above (Some a) (picked above (Some b) (Some c))
   picked_three a b c =
       ⊎_elim
