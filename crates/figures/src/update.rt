@@ -10,22 +10,26 @@ use kinds::{Kind, ValueOf};
 pub fn update_min<K: Kind, V: ValueOf<K> + Copy>(value: &V, min: &mut Option<V>)
     ensures { MinUpdated K.Kind.meaning (option_map V.ValueOf.bytes min.old) (V.ValueOf.bytes value.now) (option_map V.ValueOf.bytes min.new) }
 {
-    update_stat::<K, V, _>(value, min, |old, value|
-        ensures { result ≡ greater K.Kind.meaning old.now value.now }
-    {
-        K::compare_greater(old, value)
-    });
+    update_stat::<K, V, _>(
+        value,
+        min,
+        |old, value|
+            ensures { result ≡ greater K.Kind.meaning old.now value.now }
+        { K::compare_greater(old, value) },
+    );
 }
 
 // Takes one value more into the largest of those before it.
 pub fn update_max<K: Kind, V: ValueOf<K> + Copy>(value: &V, max: &mut Option<V>)
     ensures { MaxUpdated K.Kind.meaning (option_map V.ValueOf.bytes max.old) (V.ValueOf.bytes value.now) (option_map V.ValueOf.bytes max.new) }
 {
-    update_stat::<K, V, _>(value, max, |old, value|
-        ensures { result ≡ greater K.Kind.meaning value.now old.now }
-    {
-        K::compare_greater(value, old)
-    });
+    update_stat::<K, V, _>(
+        value,
+        max,
+        |old, value|
+            ensures { result ≡ greater K.Kind.meaning value.now old.now }
+        { K::compare_greater(value, old) },
+    );
 }
 
 // Takes one value more into a figure, whatever order of values it is of.
