@@ -1,5 +1,6 @@
 -- One pair more at the end: the order holds on if it held and the last pair stands so to the new one.
-use Rattle.std.proofs.Common.{◌≡◌, Bool, true, false, ◌&&◌, List, [], ◌∷◌, ◌++◌, Some, sym, refl, ap, ◌∙◌}
+use Rattle.std.proofs.Common.{◌≡◌, Bool, ◌&&◌, List, [], ◌∷◌, ◌++◌, Some, sym, refl, ap, ◌∙◌}
+use Rattle.std.proofs.Math.Bool.{and_assoc, and-true}
 use Rattle.std.specs.Option.{option_map}
 use Rattle.kinds.specs.Meaning.{Meaning}
 use Rattle.flags.specs.Flags.{Pair, rises, falls, ascending, descending, along_from, along, last_from, last_of}
@@ -7,17 +8,9 @@ use Rattle.flags.specs.Tracks.{pair_of, goes_on, Tracks}
 use Rattle.flags.specs.declared.tracker.Bounds.{Bounds}
 use Rattle.flags.specs.declared.tracker.Tracker.{Tracker}
 
-and_assoc : (a b c : Bool) → (a && (b && c)) ≡ ((a && b) && c)
-and_assoc true b c = refl
-and_assoc false b c = refl
-
-and_true : (a : Bool) → (a && true) ≡ a
-and_true true = refl
-and_true false = refl
-
 along-more : (r : Pair → Pair → Bool) (q p : Pair) (qs : List Pair) → along_from r q (qs ++ (p ∷ [])) ≡ (along_from r q qs && r (last_from q qs) p)
-along-more r q p [] = and_true (r q p)
-along-more r q p (x ∷ qs) = ap (λ b. r q x && b) (along-more r x p qs) ∙ and_assoc (r q x) (along_from r x qs) (r (last_from x qs) p)
+along-more r q p [] = and-true (r q p)
+along-more r q p (x ∷ qs) = ap (λ b. r q x && b) (along-more r x p qs) ∙ sym (and_assoc (r q x) (along_from r x qs) (r (last_from x qs) p))
 
 pub along_push : (r : Pair → Pair → Bool) (ps : List Pair) (p : Pair) → along r (ps ++ (p ∷ [])) ≡ (along r ps && goes_on r (last_of ps) p)
 along_push r [] p = refl
