@@ -1,6 +1,7 @@
 -- The first member above no other, step by step: by the two laws of an order, it is found by comparing
 -- each member with the lowest of those behind it.
-use Rattle.std.proofs.Common.{◌≡◌, ℕ, Bool, true, false, cond, not, ◌||◌, ◌⊎◌, List, [], ◌∷◌, ◌++◌, Some, None, Option, sym, refl, ap, ◌∙◌, ⊎_elim, arith}
+use Rattle.std.proofs.Common.{◌≡◌, ℕ, Bool, true, false, cond, not, ◌||◌, ◌⊎◌, List, [], ◌∷◌, ◌++◌, Some, None, Option, sym, refl, ap, ◌∙◌, ⊎_elim}
+use Rattle.std.proofs.lemmas.Option.{same_Some}
 use Rattle.std.proofs.lemmas.Bool.{cases_Bool, or_parts, or_from, or_left, or_right, both_ways, not-true, not_from_true}
 use Rattle.std.specs.List.{list_any, find}
 use Rattle.figures.specs.Figures.{lowest}
@@ -24,27 +25,21 @@ first-same p q e [] = refl
 first-same p q e (v ∷ vs) =
     ap (λ b. cond b (Some v) (find p vs)) (e v) ∙ ap (λ o. cond (q v) (Some v) o) (first-same p q e vs)
 
-some_same : (a b : List ℕ) → ◌≡◌ {A = Option (List ℕ)} (Some a) (Some b) → a ≡ b
-some_same a b e = cc
-
-none_some : (a : List ℕ) → ◌≡◌ {A = Option (List ℕ)} None (Some a) → ⊥
-none_some a e = let z : ◌≡◌ {A = ℕ} 0 1 = cc in omega arith
-
 -- the first that passes does pass
 first_passes : (p : List ℕ → Bool) (vs : List (List ℕ)) (s : List ℕ) → find p vs ≡ Some s → p s ≡ true
-first_passes p [] s e = absurd (none_some s e)
+first_passes p [] s e = cc
 first_passes p (v ∷ vs) s e =
     ⊎_elim
-    (λ h. ap p (sym (some_same v s (ap (λ b. cond b (Some v) (find p vs)) (sym h) ∙ e))) ∙ h)
+    (λ h. ap p (sym (same_Some v s (ap (λ b. cond b (Some v) (find p vs)) (sym h) ∙ e))) ∙ h)
     (λ h. first_passes p vs s (ap (λ b. cond b (Some v) (find p vs)) (sym h) ∙ e))
     (cases_Bool (p v))
 
 -- a test that it passes, some member passes
 first_any : (p q : List ℕ → Bool) (vs : List (List ℕ)) (s : List ℕ) → find p vs ≡ Some s → q s ≡ true → list_any q vs ≡ true
-first_any p q [] s e t = absurd (none_some s e)
+first_any p q [] s e t = cc
 first_any p q (v ∷ vs) s e t =
     ⊎_elim
-    (λ h. or_left (q v) (list_any q vs) (ap q (some_same v s (ap (λ b. cond b (Some v) (find p vs)) (sym h) ∙ e)) ∙ t))
+    (λ h. or_left (q v) (list_any q vs) (ap q (same_Some v s (ap (λ b. cond b (Some v) (find p vs)) (sym h) ∙ e)) ∙ t))
     (λ h. or_right (q v) (list_any q vs) (first_any p q vs s (ap (λ b. cond b (Some v) (find p vs)) (sym h) ∙ e) t))
     (cases_Bool (p v))
 
@@ -106,7 +101,7 @@ module _ (above : Test) (weak : Weak above) where
   lowest-none [] e = refl
   lowest-none (v ∷ vs) e =
       let some = picked_some v (lowest above vs) in
-      absurd (none_some some.0 (sym e ∙ lowest-cons v vs ∙ some.1))
+      (let none : ◌≡◌ {A = Option (List ℕ)} None (Some some.0) = sym e ∙ lowest-cons v vs ∙ some.1 in cc)
 
   picked_three : (a b c : List ℕ) → picked above (picked above (Some a) (Some b)) (Some c) ≡ picked above (Some a) (picked above (Some b) (Some c))
   picked_three a b c =
