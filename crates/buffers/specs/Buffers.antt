@@ -1,12 +1,31 @@
 -- Lists of bytes in fixed memory.
-use Rattle.std.specs.Prelude.{◌≡◌, ℕ, ◌+◌, ◌<◌, ◌≤◌, Bool, true, false, List, ◌++◌, length, take}
-use Rattle.buffers.specs.declared.buffer.Buffer.{Buffer}
+use Rattle.std.specs.Prelude.{◌≡◌, ℕ, ◌+◌, ◌-◌, ◌<◌, ◌≤◌, List, ◌++◌, length, take, drop, replicate, Some, None, Option}
+use Rattle.std.proofs.Common.{sym, ap, ◌∙◌, arith}
+use Rattle.std.proofs.lemmas.List.{length-take-le, take-append-drop}
 
--- the bytes that a buffer holds
-abbrev pub held : {N : ℕ} → Buffer N → List ℕ
-held b = take b.used b.bytes
+-- the bytes that a buffer holds: in a contract a buffer is their list
+abbrev pub held : List ℕ → List ℕ
+held b = b
 
--- what appending bytes to at most n answers and leaves: false, and nothing changed, exactly if they do not fit
-abbrev pub Appended : ℕ → List ℕ → List ℕ → List ℕ → Bool → Type 0
-Appended n old bs new true = (length old + length bs ≤ n) × (new ≡ old ++ bs)
-Appended n old bs new false = (n < length old + length bs) × (new ≡ old)
+-- what appending bytes to at most n answers and leaves: absent, and nothing changed, exactly if they do not fit
+abbrev pub Appended : ℕ → List ℕ → List ℕ → List ℕ → Option (Unit {0}) → Type 0
+Appended n old bs new (Some _) = (length old + length bs ≤ n) × (new ≡ old ++ bs)
+Appended n old bs new None = (n < length old + length bs) × (new ≡ old)
+
+-- of n bytes of memory the first are used, and only zeros stand behind them
+pub record IsPadded (n used : ℕ) (bytes : List ℕ) : Type 0 where
+  pub wide : length bytes ≡ n
+  pub fits : used ≤ n
+  pub zeros : drop used bytes ≡ replicate (n - used) 0
+
+-- bytes, with zeros behind them up to n
+abbrev pub padded : ℕ → List ℕ → List ℕ
+padded n bs = bs ++ replicate (n - length bs) 0
+
+pub padded-take : (n used : ℕ) (bytes : List ℕ) → IsPadded n used bytes → padded n (take used bytes) ≡ bytes
+padded-take n used bytes p =
+    ap (λ k. take used bytes ++ replicate (n - k) 0) (length-take-le used bytes (omega (arith, p.wide, p.fits)))
+    ∙ ap (λ zs. take used bytes ++ zs) (sym p.zeros) ∙ take-append-drop used bytes
+
+pub length-front : (n used : ℕ) (bytes : List ℕ) → IsPadded n used bytes → length (take used bytes) ≡ used
+length-front n used bytes p = length-take-le used bytes (omega (arith, p.wide, p.fits))

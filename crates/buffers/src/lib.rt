@@ -3,6 +3,5 @@
 #![tactic(auto)]
 
 mod buffer;
-mod methods;
 
 pub use buffer::Buffer;

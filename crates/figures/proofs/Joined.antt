@@ -3,8 +3,9 @@
 use Rattle.std.proofs.Common.{◌≡◌, ℕ, ◌+◌, Bool, true, false, cond, not, ◌||◌, ◌⊎◌, List, [], ◌∷◌, ◌++◌, Some, None, Option, sym, refl, ap, ◌∙◌, inl, inr, ⊎_elim, add_assoc, zero-add}
 use Rattle.std.proofs.lemmas.Bool.{cases_Bool, or_parts, or_cases, or_left, or_right, not-true, not-false, false≢true}
 use Rattle.kinds.specs.Meaning.{Meaning, greater}
-use Rattle.figures.specs.Figures.{any, keep, first, count, lowest, smallest, largest, replaces, merged, lesser, higher, Joins, MinUpdated, MaxUpdated}
-use Rattle.figures.proofs.Lowest.{Test, Weak, picked, lowest-append, irreflexive}
+use Rattle.std.specs.List.{list_any, filter, find}
+use Rattle.figures.specs.Figures.{count, lowest, smallest, largest, replaces, merged, lesser, higher, Joins, MinUpdated, MaxUpdated}
+use Rattle.figures.proofs.Lowest.{Test, Weak, picked, lowest-append, lowest-none, irreflexive}
 
 module _ (nan : List ℕ → Bool) (above : Test) where
   -- a number is never above NaN, and NaN above every number
@@ -38,77 +39,77 @@ module _ (nan : List ℕ → Bool) (above : Test) where
 
   -- ---- where all are NaN
 
-  any_nan : (u : List ℕ) → nan u ≡ true → (vs : List (List ℕ)) → any number vs ≡ false
-      → any (λ x. behind u x) vs ≡ any (λ x. above u x) vs
+  any_nan : (u : List ℕ) → nan u ≡ true → (vs : List (List ℕ)) → list_any number vs ≡ false
+      → list_any (λ x. behind u x) vs ≡ list_any (λ x. above u x) vs
   any_nan u hu [] h = refl
   any_nan u hu (x ∷ vs) h =
-      let parts = or_parts (number x) (any number vs) h in
+      let parts = or_parts (number x) (list_any number vs) h in
       let hx : nan x ≡ true = not-false (nan x) parts.0 in
-      ap (λ b. replaces b (nan x) (above u x) || any (λ y. behind u y) vs) hu
-      ∙ ap (λ b. replaces true b (above u x) || any (λ y. behind u y) vs) hx
+      ap (λ b. replaces b (nan x) (above u x) || list_any (λ y. behind u y) vs) hu
+      ∙ ap (λ b. replaces true b (above u x) || list_any (λ y. behind u y) vs) hx
       ∙ ap (λ b. above u x || b) (any_nan u hu vs parts.1)
 
-  first-nan : (vs ws : List (List ℕ)) → any number vs ≡ false → any number ws ≡ false
-      → first (λ u. not (any (λ x. above u x) vs)) ws ≡ first (λ u. not (any (λ x. behind u x) vs)) ws
+  first-nan : (vs ws : List (List ℕ)) → list_any number vs ≡ false → list_any number ws ≡ false
+      → find (λ u. not (list_any (λ x. above u x) vs)) ws ≡ find (λ u. not (list_any (λ x. behind u x) vs)) ws
   first-nan vs [] h k = refl
   first-nan vs (w ∷ ws) h k =
-      let parts = or_parts (number w) (any number ws) k in
+      let parts = or_parts (number w) (list_any number ws) k in
       let e = any_nan w (not-false (nan w) parts.0) vs h in
-      ap (λ b. cond (not b) (Some w) (first (λ u. not (any (λ x. above u x) vs)) ws)) (sym e)
-      ∙ ap (λ o. cond (not (any (λ x. behind w x) vs)) (Some w) o) (first-nan vs ws h parts.1)
+      ap (λ b. cond (not b) (Some w) (find (λ u. not (list_any (λ x. above u x) vs)) ws)) (sym e)
+      ∙ ap (λ o. cond (not (list_any (λ x. behind w x) vs)) (Some w) o) (first-nan vs ws h parts.1)
 
   -- ---- where some are numbers
 
-  nan-above : (u : List ℕ) → nan u ≡ true → (vs : List (List ℕ)) → any number vs ≡ true → any (λ x. behind u x) vs ≡ true
+  nan-above : (u : List ℕ) → nan u ≡ true → (vs : List (List ℕ)) → list_any number vs ≡ true → list_any (λ x. behind u x) vs ≡ true
   nan-above u hu [] h = absurd (false≢true h)
   nan-above u hu (x ∷ vs) h =
       ⊎_elim
       (λ t.
-      or_left (behind u x) (any (λ y. behind u y) vs)
+      or_left (behind u x) (list_any (λ y. behind u y) vs)
       (ap (λ b. replaces b (nan x) (above u x)) hu ∙ ap (λ b. replaces true b (above u x)) (not-true (nan x) t)))
-      (λ t. or_right (behind u x) (any (λ y. behind u y) vs) (nan-above u hu vs t))
-      (or_cases (number x) (any number vs) h)
+      (λ t. or_right (behind u x) (list_any (λ y. behind u y) vs) (nan-above u hu vs t))
+      (or_cases (number x) (list_any number vs) h)
 
-  number-above : (u : List ℕ) → nan u ≡ false → (vs : List (List ℕ)) → any (λ x. behind u x) vs ≡ any (λ x. above u x) (keep number vs)
+  number-above : (u : List ℕ) → nan u ≡ false → (vs : List (List ℕ)) → list_any (λ x. behind u x) vs ≡ list_any (λ x. above u x) (filter number vs)
   number-above u hu [] = refl
   number-above u hu (x ∷ vs) =
       ⊎_elim
       (λ t.
-      ap (λ b. replaces b (nan x) (above u x) || any (λ y. behind u y) vs) hu
-      ∙ ap (λ b. replaces false b (above u x) || any (λ y. behind u y) vs) t
+      ap (λ b. replaces b (nan x) (above u x) || list_any (λ y. behind u y) vs) hu
+      ∙ ap (λ b. replaces false b (above u x) || list_any (λ y. behind u y) vs) t
       ∙ number-above u hu vs
-      ∙ ap (λ b. any (λ y. above u y) (cond (not b) (x ∷ keep number vs) (keep number vs))) (sym t))
+      ∙ ap (λ b. list_any (λ y. above u y) (cond (not b) (x ∷ filter number vs) (filter number vs))) (sym t))
       (λ t.
-      ap (λ b. replaces b (nan x) (above u x) || any (λ y. behind u y) vs) hu
-      ∙ ap (λ b. replaces false b (above u x) || any (λ y. behind u y) vs) t
+      ap (λ b. replaces b (nan x) (above u x) || list_any (λ y. behind u y) vs) hu
+      ∙ ap (λ b. replaces false b (above u x) || list_any (λ y. behind u y) vs) t
       ∙ ap (λ b. above u x || b) (number-above u hu vs)
-      ∙ ap (λ b. any (λ y. above u y) (cond (not b) (x ∷ keep number vs) (keep number vs))) (sym t))
+      ∙ ap (λ b. list_any (λ y. above u y) (cond (not b) (x ∷ filter number vs) (filter number vs))) (sym t))
       (cases_Bool (nan x))
 
-  first-number : (vs ws : List (List ℕ)) → any number vs ≡ true
-      → first (λ u. not (any (λ x. above u x) (keep number vs))) (keep number ws) ≡ first (λ u. not (any (λ x. behind u x) vs)) ws
+  first-number : (vs ws : List (List ℕ)) → list_any number vs ≡ true
+      → find (λ u. not (list_any (λ x. above u x) (filter number vs))) (filter number ws) ≡ find (λ u. not (list_any (λ x. behind u x) vs)) ws
   first-number vs [] h = refl
   first-number vs (w ∷ ws) h =
-      let p : List ℕ → Bool = λ u. not (any (λ x. above u x) (keep number vs)) in
-      let q : List ℕ → Bool = λ u. not (any (λ x. behind u x) vs) in
+      let p : List ℕ → Bool = λ u. not (list_any (λ x. above u x) (filter number vs)) in
+      let q : List ℕ → Bool = λ u. not (list_any (λ x. behind u x) vs) in
       ⊎_elim
       (λ t.
-      ap (λ b. first p (cond (not b) (w ∷ keep number ws) (keep number ws))) t
+      ap (λ b. find p (cond (not b) (w ∷ filter number ws) (filter number ws))) t
       ∙ first-number vs ws h
-      ∙ ap (λ b. cond (not b) (Some w) (first q ws)) (sym (nan-above w t vs h)))
+      ∙ ap (λ b. cond (not b) (Some w) (find q ws)) (sym (nan-above w t vs h)))
       (λ t.
-      ap (λ b. first p (cond (not b) (w ∷ keep number ws) (keep number ws))) t
-      ∙ ap (λ b. cond (not b) (Some w) (first p (keep number ws))) (sym (number-above w t vs))
+      ap (λ b. find p (cond (not b) (w ∷ filter number ws) (filter number ws))) t
+      ∙ ap (λ b. cond (not b) (Some w) (find p (filter number ws))) (sym (number-above w t vs))
       ∙ ap (λ o. cond (q w) (Some w) o) (first-number vs ws h))
       (cases_Bool (nan w))
 
   -- the lowest of the values considered is the lowest of all once NaN stands behind
-  pub lowest_behind : (vs : List (List ℕ)) → lowest above (cond (any number vs) (keep number vs) vs) ≡ lowest behind vs
+  pub lowest_behind : (vs : List (List ℕ)) → lowest above (cond (list_any number vs) (filter number vs) vs) ≡ lowest behind vs
   lowest_behind vs =
       ⊎_elim
-      (λ t. ap (λ b. lowest above (cond b (keep number vs) vs)) t ∙ first-number vs vs t)
-      (λ t. ap (λ b. lowest above (cond b (keep number vs) vs)) t ∙ first-nan vs vs t t)
-      (cases_Bool (any number vs))
+      (λ t. ap (λ b. lowest above (cond b (filter number vs) vs)) t ∙ first-number vs vs t)
+      (λ t. ap (λ b. lowest above (cond b (filter number vs) vs)) t ∙ first-nan vs vs t t)
+      (cases_Bool (list_any number vs))
 
   merged_picked : (x y : Option (List ℕ)) → picked behind x y ≡ merged nan above x y
   merged_picked None y = refl
@@ -116,15 +117,15 @@ module _ (nan : List ℕ → Bool) (above : Test) where
   merged_picked (Some a) (Some b) = refl
 
   pub lowest-joined : Weak above → (xs ys : List (List ℕ))
-      → lowest above (cond (any number (xs ++ ys)) (keep number (xs ++ ys)) (xs ++ ys))
-      ≡ merged nan above (lowest above (cond (any number xs) (keep number xs) xs)) (lowest above (cond (any number ys) (keep number ys) ys))
+      → lowest above (cond (list_any number (xs ++ ys)) (filter number (xs ++ ys)) (xs ++ ys))
+      ≡ merged nan above (lowest above (cond (list_any number xs) (filter number xs) xs)) (lowest above (cond (list_any number ys) (filter number ys) ys))
   lowest-joined w xs ys =
       lowest_behind (xs ++ ys) ∙ lowest-append behind (weak_behind w) xs ys
       ∙ ap (λ o. picked behind o (lowest behind ys)) (sym (lowest_behind xs))
-      ∙ ap (λ o. picked behind (lowest above (cond (any number xs) (keep number xs) xs)) o) (sym (lowest_behind ys))
-      ∙ merged_picked (lowest above (cond (any number xs) (keep number xs) xs)) (lowest above (cond (any number ys) (keep number ys) ys))
+      ∙ ap (λ o. picked behind (lowest above (cond (list_any number xs) (filter number xs) xs)) o) (sym (lowest_behind ys))
+      ∙ merged_picked (lowest above (cond (list_any number xs) (filter number xs) xs)) (lowest above (cond (list_any number ys) (filter number ys) ys))
 
-  pub lowest-one : Weak above → (v : List ℕ) → lowest above (cond (any number (v ∷ [])) (keep number (v ∷ [])) (v ∷ [])) ≡ Some v
+  pub lowest-one : Weak above → (v : List ℕ) → lowest above (cond (list_any number (v ∷ [])) (filter number (v ∷ [])) (v ∷ [])) ≡ Some v
   lowest-one w v =
       lowest_behind (v ∷ []) ∙ ap (λ b. cond (not (b || false)) (Some v) None) (irreflexive behind (weak_behind w) v)
 
@@ -150,6 +151,16 @@ smallest_one m = lowest-one m.nan (λ v u. greater m v u) (weak_greater m)
 
 pub largest_one : (m : Meaning) (v : List ℕ) → largest m (v ∷ []) ≡ Some v
 largest_one m = lowest-one m.nan (λ v u. greater m u v) (weak_less m)
+
+pub smallest-none : (m : Meaning) (vs : List (List ℕ)) → smallest m vs ≡ None → vs ≡ []
+smallest-none m vs e =
+    lowest-none (behind m.nan (λ v u. greater m v u)) (weak_behind m.nan (λ v u. greater m v u) (weak_greater m)) vs
+    (sym (lowest_behind m.nan (λ v u. greater m v u) vs) ∙ e)
+
+pub largest-none : (m : Meaning) (vs : List (List ℕ)) → largest m vs ≡ None → vs ≡ []
+largest-none m vs e =
+    lowest-none (behind m.nan (λ v u. greater m u v)) (weak_behind m.nan (λ v u. greater m u v) (weak_less m)) vs
+    (sym (lowest_behind m.nan (λ v u. greater m u v) vs) ∙ e)
 
 pub count-joined : (p : List ℕ → Bool) (xs ys : List (List ℕ)) → count p (xs ++ ys) ≡ count p xs + count p ys
 count-joined p [] ys = sym (zero-add (count p ys))

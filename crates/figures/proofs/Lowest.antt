@@ -1,8 +1,10 @@
 -- The first member above no other, step by step: by the two laws of an order, it is found by comparing
 -- each member with the lowest of those behind it.
-use Rattle.std.proofs.Common.{◌≡◌, ℕ, Bool, true, false, cond, not, ◌||◌, ◌⊎◌, List, [], ◌∷◌, ◌++◌, Some, None, Option, sym, refl, ap, ◌∙◌, ⊎_elim, arith}
+use Rattle.std.proofs.Common.{◌≡◌, ℕ, Bool, true, false, cond, not, ◌||◌, ◌⊎◌, List, [], ◌∷◌, ◌++◌, Some, None, Option, sym, refl, ap, ◌∙◌, ⊎_elim}
+use Rattle.std.proofs.lemmas.Option.{same_Some}
 use Rattle.std.proofs.lemmas.Bool.{cases_Bool, or_parts, or_from, or_left, or_right, both_ways, not-true, not_from_true}
-use Rattle.figures.specs.Figures.{any, first, lowest}
+use Rattle.std.specs.List.{list_any, find}
+use Rattle.figures.specs.Figures.{lowest}
 
 abbrev pub Test : Type 0
 Test = List ℕ → List ℕ → Bool
@@ -18,33 +20,27 @@ picked above None y = y
 picked above (Some a) None = Some a
 picked above (Some a) (Some b) = Some (cond (above a b) b a)
 
-pub first-same : (p q : List ℕ → Bool) → ((v : List ℕ) → p v ≡ q v) → (vs : List (List ℕ)) → first p vs ≡ first q vs
+pub first-same : (p q : List ℕ → Bool) → ((v : List ℕ) → p v ≡ q v) → (vs : List (List ℕ)) → find p vs ≡ find q vs
 first-same p q e [] = refl
 first-same p q e (v ∷ vs) =
-    ap (λ b. cond b (Some v) (first p vs)) (e v) ∙ ap (λ o. cond (q v) (Some v) o) (first-same p q e vs)
-
-some_same : (a b : List ℕ) → ◌≡◌ {A = Option (List ℕ)} (Some a) (Some b) → a ≡ b
-some_same a b e = cc
-
-none_some : (a : List ℕ) → ◌≡◌ {A = Option (List ℕ)} None (Some a) → ⊥
-none_some a e = let z : ◌≡◌ {A = ℕ} 0 1 = cc in omega arith
+    ap (λ b. cond b (Some v) (find p vs)) (e v) ∙ ap (λ o. cond (q v) (Some v) o) (first-same p q e vs)
 
 -- the first that passes does pass
-first_passes : (p : List ℕ → Bool) (vs : List (List ℕ)) (s : List ℕ) → first p vs ≡ Some s → p s ≡ true
-first_passes p [] s e = absurd (none_some s e)
+first_passes : (p : List ℕ → Bool) (vs : List (List ℕ)) (s : List ℕ) → find p vs ≡ Some s → p s ≡ true
+first_passes p [] s e = cc
 first_passes p (v ∷ vs) s e =
     ⊎_elim
-    (λ h. ap p (sym (some_same v s (ap (λ b. cond b (Some v) (first p vs)) (sym h) ∙ e))) ∙ h)
-    (λ h. first_passes p vs s (ap (λ b. cond b (Some v) (first p vs)) (sym h) ∙ e))
+    (λ h. ap p (sym (same_Some v s (ap (λ b. cond b (Some v) (find p vs)) (sym h) ∙ e))) ∙ h)
+    (λ h. first_passes p vs s (ap (λ b. cond b (Some v) (find p vs)) (sym h) ∙ e))
     (cases_Bool (p v))
 
 -- a test that it passes, some member passes
-first_any : (p q : List ℕ → Bool) (vs : List (List ℕ)) (s : List ℕ) → first p vs ≡ Some s → q s ≡ true → any q vs ≡ true
-first_any p q [] s e t = absurd (none_some s e)
+first_any : (p q : List ℕ → Bool) (vs : List (List ℕ)) (s : List ℕ) → find p vs ≡ Some s → q s ≡ true → list_any q vs ≡ true
+first_any p q [] s e t = cc
 first_any p q (v ∷ vs) s e t =
     ⊎_elim
-    (λ h. or_left (q v) (any q vs) (ap q (some_same v s (ap (λ b. cond b (Some v) (first p vs)) (sym h) ∙ e)) ∙ t))
-    (λ h. or_right (q v) (any q vs) (first_any p q vs s (ap (λ b. cond b (Some v) (first p vs)) (sym h) ∙ e) t))
+    (λ h. or_left (q v) (list_any q vs) (ap q (same_Some v s (ap (λ b. cond b (Some v) (find p vs)) (sym h) ∙ e)) ∙ t))
+    (λ h. or_right (q v) (list_any q vs) (first_any p q vs s (ap (λ b. cond b (Some v) (find p vs)) (sym h) ∙ e) t))
     (cases_Bool (p v))
 
 module _ (above : Test) (weak : Weak above) where
@@ -52,11 +48,11 @@ module _ (above : Test) (weak : Weak above) where
   irreflexive v = ⊎_elim (λ h. weak.one_way v v h) (λ h. h) (cases_Bool (above v v))
 
   -- what is not above the lowest is above none
-  above_none : (v s : List ℕ) (vs : List (List ℕ)) → above v s ≡ false → any (λ u. above s u) vs ≡ false → any (λ u. above v u) vs ≡ false
+  above_none : (v s : List ℕ) (vs : List (List ℕ)) → above v s ≡ false → list_any (λ u. above s u) vs ≡ false → list_any (λ u. above v u) vs ≡ false
   above_none v s [] h k = refl
   above_none v s (x ∷ vs) h k =
-      let parts = or_parts (above s x) (any (λ u. above s u) vs) k in
-      or_from (above v x) (any (λ u. above v u) vs)
+      let parts = or_parts (above s x) (list_any (λ u. above s u) vs) k in
+      or_from (above v x) (list_any (λ u. above v u) vs)
       (⊎_elim
       (λ t. absurd (⊎_elim (λ a. both_ways (above v s) h a) (λ a. both_ways (above s x) parts.0 a) (weak.splits v s x t)))
       (λ t. t)
@@ -65,28 +61,28 @@ module _ (above : Test) (weak : Weak above) where
 
   step : (v s : List ℕ) (vs : List (List ℕ)) → lowest above vs ≡ Some s → lowest above (v ∷ vs) ≡ Some (cond (above v s) s v)
   step v s vs e =
-      let p : List ℕ → Bool = λ u. not (any (λ x. above u x) (v ∷ vs)) in
-      let q : List ℕ → Bool = λ u. not (any (λ x. above u x) vs) in
-      let none : any (λ u. above s u) vs ≡ false = not-true (any (λ u. above s u) vs) (first_passes q vs s e) in
+      let p : List ℕ → Bool = λ u. not (list_any (λ x. above u x) (v ∷ vs)) in
+      let q : List ℕ → Bool = λ u. not (list_any (λ x. above u x) vs) in
+      let none : list_any (λ u. above s u) vs ≡ false = not-true (list_any (λ u. above s u) vs) (first_passes q vs s e) in
       ⊎_elim
       (λ t.
       let pv : p v ≡ false =
-      not_from_true (above v v || any (λ u. above v u) vs)
-      (or_right (above v v) (any (λ u. above v u) vs) (first_any q (λ u. above v u) vs s e t)) in
+      not_from_true (above v v || list_any (λ u. above v u) vs)
+      (or_right (above v v) (list_any (λ u. above v u) vs) (first_any q (λ u. above v u) vs s e t)) in
       let same : (u : List ℕ) → p u ≡ q u =
       λ u. ap not
       (⊎_elim
-      (λ h. or_right (above u v) (any (λ x. above u x) vs) h ∙ sym h)
-      (λ h. or_from (above u v) (any (λ x. above u x) vs)
+      (λ h. or_right (above u v) (list_any (λ x. above u x) vs) h ∙ sym h)
+      (λ h. or_from (above u v) (list_any (λ x. above u x) vs)
       (⊎_elim (λ a. weak.one_way v u a)
-      (λ a. absurd (both_ways (any (λ x. above u x) vs) h (first_any q (λ x. above u x) vs s e a)))
+      (λ a. absurd (both_ways (list_any (λ x. above u x) vs) h (first_any q (λ x. above u x) vs s e a)))
       (weak.splits v u s t)) h ∙ sym h)
-      (cases_Bool (any (λ x. above u x) vs))) in
-      ap (λ b. cond b (Some v) (first p vs)) pv ∙ first-same p q same vs ∙ e ∙ ap (λ b. Some (cond b s v)) (sym t))
+      (cases_Bool (list_any (λ x. above u x) vs))) in
+      ap (λ b. cond b (Some v) (find p vs)) pv ∙ first-same p q same vs ∙ e ∙ ap (λ b. Some (cond b s v)) (sym t))
       (λ t.
       let pv : p v ≡ true =
-      ap not (or_from (above v v) (any (λ u. above v u) vs) (irreflexive v) (above_none v s vs t none)) in
-      ap (λ b. cond b (Some v) (first p vs)) pv ∙ ap (λ b. Some (cond b s v)) (sym t))
+      ap not (or_from (above v v) (list_any (λ u. above v u) vs) (irreflexive v) (above_none v s vs t none)) in
+      ap (λ b. cond b (Some v) (find p vs)) pv ∙ ap (λ b. Some (cond b s v)) (sym t))
       (cases_Bool (above v s))
 
   picked_some : (x : List ℕ) (o : Option (List ℕ)) → (s : List ℕ) × (picked above (Some x) o ≡ Some s)
@@ -99,6 +95,13 @@ module _ (above : Test) (weak : Weak above) where
       let some = picked_some x (lowest above xs) in
       let e : lowest above (x ∷ xs) ≡ Some some.0 = lowest-cons x xs ∙ some.1 in
       step v some.0 (x ∷ xs) e ∙ ap (λ o. picked above (Some v) o) (sym e)
+
+  -- a list without a lowest member is empty
+  pub lowest-none : (vs : List (List ℕ)) → lowest above vs ≡ None → vs ≡ []
+  lowest-none [] e = refl
+  lowest-none (v ∷ vs) e =
+      let some = picked_some v (lowest above vs) in
+      (let none : ◌≡◌ {A = Option (List ℕ)} None (Some some.0) = sym e ∙ lowest-cons v vs ∙ some.1 in cc)
 
   picked_three : (a b c : List ℕ) → picked above (picked above (Some a) (Some b)) (Some c) ≡ picked above (Some a) (picked above (Some b) (Some c))
   picked_three a b c =

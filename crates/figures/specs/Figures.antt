@@ -1,22 +1,8 @@
 -- Figures of a list of values: smallest, largest and how many are NaN.
-use Rattle.std.specs.Prelude.{◌≡◌, ℕ, ◌+◌, Bool, true, false, cond, not, ◌||◌, List, [], ◌∷◌, ◌++◌, Some, None, Option, slice_index_or}
+use Rattle.std.specs.Prelude.{◌≡◌, ℕ, ◌+◌, Bool, true, false, cond, not, List, [], ◌∷◌, ◌++◌, Some, None, Option}
+use Rattle.std.specs.List.{list_any, filter, find}
 use Rattle.kinds.specs.Meaning.{Meaning, greater}
 use Rattle.figures.specs.declared.min_max.MinMax.{MinMax}
-
--- whether some member passes the test
-abbrev pub any : (List ℕ → Bool) → List (List ℕ) → Bool
-any p [] = false
-any p (v ∷ vs) = p v || any p vs
-
--- the members that pass the test, in order
-abbrev pub keep : (List ℕ → Bool) → List (List ℕ) → List (List ℕ)
-keep p [] = []
-keep p (v ∷ vs) = cond (p v) (v ∷ keep p vs) (keep p vs)
-
--- the first member that passes the test
-abbrev pub first : (List ℕ → Bool) → List (List ℕ) → Option (List ℕ)
-first p [] = None
-first p (v ∷ vs) = cond (p v) (Some v) (first p vs)
 
 -- how many members pass the test
 abbrev pub count : (List ℕ → Bool) → List (List ℕ) → ℕ
@@ -25,11 +11,11 @@ count p (v ∷ vs) = cond (p v) 1 0 + count p vs
 
 -- the values that smallest and largest are taken over: those not NaN, or all where all are NaN
 abbrev pub considered : Meaning → List (List ℕ) → List (List ℕ)
-considered m vs = cond (any (λ v. not (m.nan v)) vs) (keep (λ v. not (m.nan v)) vs) vs
+considered m vs = cond (list_any (λ v. not (m.nan v)) vs) (filter (λ v. not (m.nan v)) vs) vs
 
 -- the first member that is above no other
 abbrev pub lowest : (List ℕ → List ℕ → Bool) → List (List ℕ) → Option (List ℕ)
-lowest above vs = first (λ v. not (any (λ u. above v u) vs)) vs
+lowest above vs = find (λ v. not (list_any (λ u. above v u) vs)) vs
 
 -- the first value greater than no other
 abbrev pub smallest : Meaning → List (List ℕ) → Option (List ℕ)
@@ -62,19 +48,6 @@ lesser m = merged m.nan (λ v u. greater m v u)
 
 abbrev pub higher : Meaning → Option (List ℕ) → Option (List ℕ) → Option (List ℕ)
 higher m = merged m.nan (λ v u. greater m u v)
-
--- of two places, that of the figure that the values there have together
-abbrev pub lower_place : Meaning → List (List ℕ) → ℕ → ℕ → ℕ
-lower_place m vs a b =
-    cond (replaces (m.nan (slice_index_or vs a [])) (m.nan (slice_index_or vs b [])) (greater m (slice_index_or vs a []) (slice_index_or vs b []))) b a
-
-abbrev pub higher_place : Meaning → List (List ℕ) → ℕ → ℕ → ℕ
-higher_place m vs a b =
-    cond (replaces (m.nan (slice_index_or vs a [])) (m.nan (slice_index_or vs b [])) (greater m (slice_index_or vs b []) (slice_index_or vs a []))) b a
-
--- how many NaN stand at a place: one or none
-abbrev pub nan_at : Meaning → List (List ℕ) → ℕ → ℕ
-nan_at m vs i = cond (m.nan (slice_index_or vs i [])) 1 0
 
 -- what taking one value more into the smallest of some values leaves: the smaller of the two, and so the smallest
 -- of all of them, whatever the lists were

@@ -1,75 +1,69 @@
-ghost use Rattle.std.specs.Prelude.{◌≡◌, Some};
-ghost use Rattle.figures.specs.Figures.{replaces, lesser, higher, MinUpdated, MaxUpdated};
-ghost use Rattle.kinds.specs.Meaning.{greater};
+ghost use Rattle.std.specs.Prelude.{◌≡◌, ℕ, Bool, List, Some};
+ghost use Rattle.std.specs.Borrow.{Bor};
 ghost use Rattle.std.specs.Option.{option_map};
+ghost use Rattle.figures.specs.Figures.{replaces, merged, MinUpdated, MaxUpdated};
+ghost use Rattle.kinds.specs.Meaning.{greater};
 
 use kinds::{Kind, ValueOf};
-
-// Whether a value takes the place of the smallest so far: NaN gives way to a number, never the other way round.
-pub(crate) fn replaces_min<K: Kind, V: ValueOf<K>>(min: &V, value: &V) -> bool
-    ensures { result ≡ replaces (K.Kind.meaning.nan (V.ValueOf.bytes min.now)) (K.Kind.meaning.nan (V.ValueOf.bytes value.now)) (greater K.Kind.meaning (V.ValueOf.bytes min.now) (V.ValueOf.bytes value.now)) }
-{
-    let mut here = [0u8; 8];
-    let mut there = [0u8; 8];
-    let a = min.as_bytes(&mut here);
-    let b = value.as_bytes(&mut there);
-    match (K::is_nan(a), K::is_nan(b)) {
-        (false, true) => false,
-        (true, false) => true,
-        _ => K::compare_greater(a, b),
-    }
-}
-
-pub(crate) fn replaces_max<K: Kind, V: ValueOf<K>>(max: &V, value: &V) -> bool
-    ensures { result ≡ replaces (K.Kind.meaning.nan (V.ValueOf.bytes max.now)) (K.Kind.meaning.nan (V.ValueOf.bytes value.now)) (greater K.Kind.meaning (V.ValueOf.bytes value.now) (V.ValueOf.bytes max.now)) }
-{
-    let mut here = [0u8; 8];
-    let mut there = [0u8; 8];
-    let a = max.as_bytes(&mut here);
-    let b = value.as_bytes(&mut there);
-    match (K::is_nan(a), K::is_nan(b)) {
-        (false, true) => false,
-        (true, false) => true,
-        _ => K::compare_greater(b, a),
-    }
-}
-
-fn smaller<K: Kind, V: ValueOf<K> + Copy>(min: Option<V>, value: &V) -> Option<V>
-    ensures { option_map V.ValueOf.bytes result ≡ lesser K.Kind.meaning (option_map V.ValueOf.bytes min) (Some (V.ValueOf.bytes value.now)) }
-{
-    match min {
-        None => Some(*value),
-        Some(old) => if replaces_min::<K, V>(&old, value) {
-            Some(*value)
-        } else {
-            Some(old)
-        },
-    }
-}
-
-fn larger<K: Kind, V: ValueOf<K> + Copy>(max: Option<V>, value: &V) -> Option<V>
-    ensures { option_map V.ValueOf.bytes result ≡ higher K.Kind.meaning (option_map V.ValueOf.bytes max) (Some (V.ValueOf.bytes value.now)) }
-{
-    match max {
-        None => Some(*value),
-        Some(old) => if replaces_max::<K, V>(&old, value) {
-            Some(*value)
-        } else {
-            Some(old)
-        },
-    }
-}
 
 // Takes one value more into the smallest of those before it.
 pub fn update_min<K: Kind, V: ValueOf<K> + Copy>(value: &V, min: &mut Option<V>)
     ensures { MinUpdated K.Kind.meaning (option_map V.ValueOf.bytes min.old) (V.ValueOf.bytes value.now) (option_map V.ValueOf.bytes min.new) }
 {
-    *min = smaller::<K, V>(*min, value);
+    update_stat::<K, V, _>(
+        value,
+        min,
+        |old, value|
+            ensures { result ≡ greater K.Kind.meaning old.now value.now }
+        { K::compare_greater(old, value) },
+    );
 }
 
 // Takes one value more into the largest of those before it.
 pub fn update_max<K: Kind, V: ValueOf<K> + Copy>(value: &V, max: &mut Option<V>)
     ensures { MaxUpdated K.Kind.meaning (option_map V.ValueOf.bytes max.old) (V.ValueOf.bytes value.now) (option_map V.ValueOf.bytes max.new) }
 {
-    *max = larger::<K, V>(*max, value);
+    update_stat::<K, V, _>(
+        value,
+        max,
+        |old, value|
+            ensures { result ≡ greater K.Kind.meaning value.now old.now }
+        { K::compare_greater(value, old) },
+    );
+}
+
+// Takes one value more into a figure, whatever order of values it is of.
+fn update_stat<K: Kind, V: ValueOf<K> + Copy, F: FnOnce(&[u8], &[u8]) -> bool>(
+    value: &V,
+    stat: &mut Option<V>,
+    is_above: F,
+)
+    requires { F.IsAlwaysCallable is_above }
+    ensures { (above : List ℕ → List ℕ → Bool) → ((a b : Bor (List ℕ)) (r : Bool) → F.post is_above a b r → r ≡ above a.now b.now) → option_map V.ValueOf.bytes stat.new ≡ merged K.Kind.meaning.nan above (option_map V.ValueOf.bytes stat.old) (Some (V.ValueOf.bytes value.now)) }
+{
+    if stat.is_none_or(|old| replaces::<K, V, F>(&old, value, is_above)) {
+        *stat = Some(*value);
+    }
+}
+
+// Whether a value takes an old one's place: NaN gives way to a number, never the other way round.
+fn replaces<K: Kind, V: ValueOf<K>, F: FnOnce(&[u8], &[u8]) -> bool>(
+    old: &V,
+    value: &V,
+    is_above: F,
+) -> bool
+    requires { F.IsAlwaysCallable is_above }
+    ensures { (above : List ℕ → List ℕ → Bool) → ((a b : Bor (List ℕ)) (r : Bool) → F.post is_above a b r → r ≡ above a.now b.now) → result ≡ replaces (K.Kind.meaning.nan (V.ValueOf.bytes old.now)) (K.Kind.meaning.nan (V.ValueOf.bytes value.now)) (above (V.ValueOf.bytes old.now) (V.ValueOf.bytes value.now)) }
+{
+    match (is_nan::<K, V>(old), is_nan::<K, V>(value)) {
+        (false, true) => false,
+        (true, false) => true,
+        _ => is_above(old.as_bytes(&mut [0; 8]), value.as_bytes(&mut [0; 8])),
+    }
+}
+
+pub(crate) fn is_nan<K: Kind, V: ValueOf<K>>(value: &V) -> bool
+    ensures { result ≡ K.Kind.meaning.nan (V.ValueOf.bytes value.now) }
+{
+    K::is_nan(value.as_bytes(&mut [0; 8]))
 }

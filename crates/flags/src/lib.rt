@@ -2,7 +2,6 @@
 
 #![tactic(auto)]
 
-mod methods;
 mod tracker;
 
 pub use tracker::{Bounds, Tracker};

@@ -5,7 +5,8 @@ use Rattle.std.proofs.ByRecursion.{All-get_or}
 use Rattle.std.proofs.lemmas.Bool.{cases_Bool, or_parts, both_ways, not-true, true≢false}
 use Rattle.std.specs.List.{AllByRecursion}
 use Rattle.kinds.specs.Meaning.{Meaning, greater}
-use Rattle.figures.specs.Figures.{any, keep, first, lowest, smallest, largest, replaces}
+use Rattle.std.specs.List.{list_any, filter, find}
+use Rattle.figures.specs.Figures.{lowest, smallest, largest, replaces}
 use Rattle.figures.proofs.Lowest.{Test, Weak, picked, lowest-cons}
 use Rattle.figures.proofs.Joined.{weak_behind, lowest_behind, weak_greater, weak_less}
 use Rattle.ledger.specs.Pages.{Page}
@@ -18,28 +19,28 @@ some_same : (a b : List ℕ) → ◌≡◌ {A = Option (List ℕ)} (Some a) (Som
 some_same a b e = cc
 
 -- the first that passes does pass
-first_passes : (p : List ℕ → Bool) (vs : List (List ℕ)) (s : List ℕ) → first p vs ≡ Some s → p s ≡ true
+first_passes : (p : List ℕ → Bool) (vs : List (List ℕ)) (s : List ℕ) → find p vs ≡ Some s → p s ≡ true
 first_passes p [] s e = let z : ◌≡◌ {A = ℕ} 0 1 = cc in absurd (omega arith)
 first_passes p (v ∷ vs) s e =
     ⊎_elim
-    (λ h. ap p (sym (some_same v s (ap (λ b. cond b (Some v) (first p vs)) (sym h) ∙ e))) ∙ h)
-    (λ h. first_passes p vs s (ap (λ b. cond b (Some v) (first p vs)) (sym h) ∙ e))
+    (λ h. ap p (sym (some_same v s (ap (λ b. cond b (Some v) (find p vs)) (sym h) ∙ e))) ∙ h)
+    (λ h. first_passes p vs s (ap (λ b. cond b (Some v) (find p vs)) (sym h) ∙ e))
     (cases_Bool (p v))
 
 -- what holds of each member holds of it
-first_holds : (P : List ℕ → Type 0) (p : List ℕ → Bool) (vs : List (List ℕ)) (s : List ℕ) → AllByRecursion P vs → first p vs ≡ Some s → P s
+first_holds : (P : List ℕ → Type 0) (p : List ℕ → Bool) (vs : List (List ℕ)) (s : List ℕ) → AllByRecursion P vs → find p vs ≡ Some s → P s
 first_holds P p [] s all e = let z : ◌≡◌ {A = ℕ} 0 1 = cc in absurd (omega arith)
 first_holds P p (v ∷ vs) s all e =
     ⊎_elim
-    (λ h. subst P (some_same v s (ap (λ b. cond b (Some v) (first p vs)) (sym h) ∙ e)) all.0)
-    (λ h. first_holds P p vs s all.1 (ap (λ b. cond b (Some v) (first p vs)) (sym h) ∙ e))
+    (λ h. subst P (some_same v s (ap (λ b. cond b (Some v) (find p vs)) (sym h) ∙ e)) all.0)
+    (λ h. first_holds P p vs s all.1 (ap (λ b. cond b (Some v) (find p vs)) (sym h) ∙ e))
     (cases_Bool (p v))
 
 -- a test that no member passes fails at each
-none_at : (q : List ℕ → Bool) (vs : List (List ℕ)) (i : ℕ) → any q vs ≡ false → i < length vs → q (get_or vs i []) ≡ false
+none_at : (q : List ℕ → Bool) (vs : List (List ℕ)) (i : ℕ) → list_any q vs ≡ false → i < length vs → q (get_or vs i []) ≡ false
 none_at q [] i e h = absurd (omega arith)
-none_at q (v ∷ vs) zero e h = (or_parts (q v) (any q vs) e).0
-none_at q (v ∷ vs) (suc i) e h = none_at q vs i (or_parts (q v) (any q vs) e).1 (omega (arith, h))
+none_at q (v ∷ vs) zero e h = (or_parts (q v) (list_any q vs) e).0
+none_at q (v ∷ vs) (suc i) e h = none_at q vs i (or_parts (q v) (list_any q vs) e).1 (omega (arith, h))
 
 picked_some : (above : Test) (x : List ℕ) (o : Option (List ℕ)) → (s : List ℕ) × (picked above (Some x) o ≡ Some s)
 picked_some above x None = (x, refl)
@@ -56,7 +57,7 @@ lowest_there above weak (v ∷ vs) h =
 
 module _ (nan : List ℕ → Bool) (above : Test) (weak : Weak above) where
   abbrev figure : List (List ℕ) → Option (List ℕ)
-  figure vs = lowest above (cond (any (λ v. not (nan v)) vs) (keep (λ v. not (nan v)) vs) vs)
+  figure vs = lowest above (cond (list_any (λ v. not (nan v)) vs) (filter (λ v. not (nan v)) vs) vs)
 
   abbrev behind : Test
   behind a b = replaces (nan a) (nan b) (above a b)
@@ -75,10 +76,10 @@ module _ (nan : List ℕ → Bool) (above : Test) (weak : Weak above) where
       → (nan (get_or vs i []) ≡ false) ⊎ AllByRecursion (λ u. nan u ≡ true) vs → above s (get_or vs i []) ≡ false
   figure_below vs i s h e c =
       let v : List ℕ = get_or vs i [] in
-      let p : List ℕ → Bool = λ u. not (any (λ x. behind u x) vs) in
-      let low : first p vs ≡ Some s = sym (lowest_behind nan above vs) ∙ e in
+      let p : List ℕ → Bool = λ u. not (list_any (λ x. behind u x) vs) in
+      let low : find p vs ≡ Some s = sym (lowest_behind nan above vs) ∙ e in
       let apart : behind s v ≡ false =
-      none_at (λ x. behind s x) vs i (not-true (any (λ x. behind s x) vs) (first_passes p vs s low)) h in
+      none_at (λ x. behind s x) vs i (not-true (list_any (λ x. behind s x) vs) (first_passes p vs s low)) h in
       ⊎_elim
       (λ n. of_numbers (nan s) (above s v) (ap (λ b. replaces (nan s) b (above s v)) (sym n) ∙ apart))
       (λ all.

@@ -11,11 +11,11 @@ pub enum Decision {
 
 impl fmt::Display for Decision {
     fn fmt<W: fmt::Write>(&self, f: &mut fmt::Formatter<W>) -> fmt::Result {
-        match self {
-            Decision::Released => f.write_str("yes"),
-            Decision::NoReading => f.write_str("no: no reading"),
-            Decision::ProbeFailed => f.write_str("no: every reading failed"),
-            Decision::BelowLimit => f.write_str("no: below the limit"),
-        }
+        f.write_str(match self {
+            Decision::Released => "yes",
+            Decision::NoReading => "no: no reading",
+            Decision::ProbeFailed => "no: every reading failed",
+            Decision::BelowLimit => "no: below the limit",
+        })
     }
 }

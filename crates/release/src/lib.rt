@@ -7,31 +7,28 @@ mod row;
 mod verdict;
 
 pub use decision::Decision;
-pub use row::{BadRow, Hold, Row, read_row};
+pub use row::{BadRow, Row};
 pub use verdict::{Verdict, judge};
 
 #[cfg(test)]
 mod tests {
     use super::*;
-    use floats::Bits;
+    use floats::{Bits, DoubleBits};
 
-    fn hold(line: &str) -> Result<Hold, BadRow> {
-        match read_row(line) {
-            Ok(row) => Ok(row.hold),
-            Err(bad) => Err(bad),
-        }
+    fn hold(line: &str) -> Result<Option<DoubleBits>, BadRow> {
+        Row::try_from(line).map(|row| row.hold)
     }
 
     #[test]
     fn reads_rows(rt: HostRuntime) {
         assert_eq!(rt;
             hold("06:15:30,V1,72.5"),
-            Ok(Hold::Measured(Bits(0x4052_2000_0000_0000)))
+            Ok(Some(Bits(0x4052_2000_0000_0000)))
         );
-        assert_eq!(rt; hold("23:59:59,V1,"), Ok(Hold::Missing));
+        assert_eq!(rt; hold("23:59:59,V1,"), Ok(None));
         assert_eq!(rt;
             hold("00:00:00,V1,nan"),
-            Ok(Hold::Measured(Bits(0x7FF8_0000_0000_0000)))
+            Ok(Some(Bits(0x7FF8_0000_0000_0000)))
         );
     }
 

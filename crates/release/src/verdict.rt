@@ -10,7 +10,7 @@ use floats::{Double, DoubleBits};
 use kinds::{Kind, ValueOf};
 
 // What a vat's hold temperatures say of it.
-#[derive(Clone, Copy)]
+#[derive(Clone, Copy, PartialEq, Eq, Debug)]
 pub struct Verdict {
     pub holds: Option<MinMax<DoubleBits>>,
     pub decision: Decision,
@@ -21,29 +21,19 @@ pub fn judge(holds: &[DoubleBits], limit: DoubleBits) -> Verdict
     ensures holds { Found double (λ v. eight v.0) (map (λ v. eight v.0) holds.now) result.holds }
     ensures decision { result.decision ≡ decided (eight limit.0) (map (λ v. eight v.0) holds.now) }
 {
-    match get_min_max::<Double, DoubleBits>(holds) {
-        None => Verdict {
-            holds: None,
-            decision: Decision::NoReading,
-        },
-        Some(found) => Verdict {
-            holds: Some(found),
-            decision: decide(found.min, limit),
-        },
+    let holds = get_min_max::<Double, DoubleBits>(holds);
+    Verdict {
+        holds,
+        decision: holds.map_or(Decision::NoReading, |found| decide(found.min, limit)),
     }
 }
 
 fn decide(smallest: DoubleBits, limit: DoubleBits) -> Decision
     ensures { result ≡ decided_on (eight limit.0) (Some (eight smallest.0)) }
 {
-    let mut here = [0u8; 8];
-    let mut there = [0u8; 8];
-    let smallest = smallest.as_bytes(&mut here);
-    let limit = limit.as_bytes(&mut there);
-    if Double::is_nan(smallest) {
-        return Decision::ProbeFailed;
-    }
-    if Double::compare_greater(limit, smallest) {
+    if Double::is_nan(smallest.as_bytes(&mut [0; 8])) {
+        Decision::ProbeFailed
+    } else if Double::compare_greater(limit.as_bytes(&mut [0; 8]), smallest.as_bytes(&mut [0; 8])) {
         Decision::BelowLimit
     } else {
         Decision::Released

@@ -1,5 +1,5 @@
 use floats::DoubleBits;
-use release::{Hold, Row};
+use release::Row;
 use std::alloc::{AllocError, Global};
 use std::collections::BTreeMap;
 
@@ -21,8 +21,8 @@ pub fn add(heap: Global, day: &mut Day, row: Row) -> Result<(), AllocError> {
     });
     vat.rows = vat.rows.saturating_add(1);
     match row.hold {
-        Hold::Missing => vat.missing = vat.missing.saturating_add(1),
-        Hold::Measured(hold) => vat.holds.push(hold)?,
+        None => vat.missing = vat.missing.saturating_add(1),
+        Some(hold) => vat.holds.push(hold)?,
     }
     Ok(())
 }

@@ -4,9 +4,9 @@
 
 #![tactic(auto)]
 
-use anyhow::anyhow;
+use anyhow::Context;
 use floats::{Bits, DoubleBits};
-use release::read_row;
+use release::Row;
 use std::collections::BTreeMap;
 use std::env;
 use std::io::{BufRead, BufReader};
@@ -19,34 +19,29 @@ mod report;
 const HEADER: &str = "time,vat,hold";
 
 fn limit(rt: &HostRuntime) -> anyhow::Result<DoubleBits> {
-    let mut args = env::args(rt)?;
-    let _program = args.next();
-    let Some(text) = args.next() else {
-        return Ok(Bits(f64_to_bits_with_nan(72.0)));
+    let degrees = match env::args(rt)?.nth(1) {
+        None => 72.0,
+        Some(text) => text
+            .as_str()
+            .parse::<f64>()
+            .ok()
+            .filter(|degrees| degrees.is_finite())
+            .context("the limit: expected degrees Celsius such as 72.0")?,
     };
-    let Ok(degrees) = text.as_str().parse::<f64>() else {
-        return Err(anyhow!("the limit: expected degrees Celsius such as 72.0"));
-    };
-    if !degrees.is_finite() {
-        return Err(anyhow!("the limit: expected degrees Celsius such as 72.0"));
-    }
     Ok(Bits(f64_to_bits_with_nan(degrees)))
 }
 
 fn read_day(rt: &HostRuntime) -> anyhow::Result<day::Day> {
     let heap = rt.alloc();
     let mut found = BTreeMap::new(heap);
-    let mut number = 0u64;
-    for line in BufReader::new(heap, rt.stdin())?.lines(heap) {
-        number = number.saturating_add(1);
+    for (i, line) in BufReader::new(heap, rt.stdin())?.lines(heap).enumerate() {
         let line = line?;
-        if number == 1 && line.as_str() == HEADER {
+        if i == 0 && line.as_str() == HEADER {
             continue;
         }
-        match read_row(line.as_str()) {
-            Ok(row) => day::add(heap, &mut found, row)?,
-            Err(bad) => return Err(anyhow!(format!(in heap; "line {number}: {bad}")?)),
-        }
+        let number = i.saturating_add(1);
+        let row = Row::try_from(line.as_str()).context(format_args!("line {number}"))?;
+        day::add(heap, &mut found, row)?;
     }
     Ok(found)
 }
@@ -58,11 +53,12 @@ fn run(rt: &HostRuntime) -> anyhow::Result<()> {
     Ok(())
 }
 
+// The error that `main` returned would be printed without the program's name.
 fn main(rt: HostRuntime) -> ExitCode {
     match run(&rt) {
         Ok(()) => ExitCode::SUCCESS,
         Err(e) => {
-            let _ = eprintln!(rt; "vats: {e}");
+            let _ = eprintln!(rt; "vats: {e:#}");
             ExitCode::FAILURE
         }
     }

@@ -1,14 +1,12 @@
 use crate::day::{Day, Vat};
 use floats::DoubleBits;
 use release::judge;
-use std::alloc::{AllocError, Global};
-use std::io;
 use std::num::f64_from_bits_with_nan;
+use std::{fmt, io};
 
 // Prints the table of the day's vats at the limit.
-pub fn print(rt: &HostRuntime, day: &Day, limit: DoubleBits) -> io::Result<()> {
-    let heap = rt.alloc();
-    let at = degrees(heap, limit)?;
+pub fn print(rt: &impl Print, day: &Day, limit: DoubleBits) -> io::Result<()> {
+    let at = Degrees(Some(limit));
     println!(rt; "Hold temperatures in °C, release at {at} or above")?;
     println!(rt; "")?;
     println!(rt;
@@ -21,29 +19,28 @@ pub fn print(rt: &HostRuntime, day: &Day, limit: DoubleBits) -> io::Result<()> {
     Ok(())
 }
 
-fn line(rt: &HostRuntime, name: &str, vat: &Vat, limit: DoubleBits) -> io::Result<()> {
-    let heap = rt.alloc();
+fn line(rt: &impl Print, name: &str, vat: &Vat, limit: DoubleBits) -> io::Result<()> {
     let rows = vat.rows;
     let missing = vat.missing;
     let verdict = judge(vat.holds.as_slice(), limit);
+    let nans = verdict.holds.map_or(0, |found| found.nan_count);
+    let smallest = Degrees(verdict.holds.map(|found| found.min));
+    let largest = Degrees(verdict.holds.map(|found| found.max));
     let release = verdict.decision;
-    match verdict.holds {
-        None => println!(rt;
-            "{name:<10} {rows:>6} {missing:>8} {:>5} {:>9} {:>9}  {release}",
-            0, "-", "-"
-        ),
-        Some(found) => {
-            let nans = found.nan_count;
-            let smallest = degrees(heap, found.min)?;
-            let largest = degrees(heap, found.max)?;
-            println!(rt;
-                "{name:<10} {rows:>6} {missing:>8} {nans:>5} {smallest:>9} {largest:>9}  {release}"
-            )
-        }
-    }
+    println!(rt;
+        "{name:<10} {rows:>6} {missing:>8} {nans:>5} {smallest:>9} {largest:>9}  {release}"
+    )
 }
 
-fn degrees(heap: Global, hold: DoubleBits) -> Result<String, AllocError> {
-    let value = f64_from_bits_with_nan(hold.0);
-    format!(in heap; "{value:?}")
+// A temperature as the table shows it.
+#[derive(Clone, Copy)]
+struct Degrees(Option<DoubleBits>);
+
+impl fmt::Display for Degrees {
+    fn fmt<W: fmt::Write>(&self, f: &mut fmt::Formatter<W>) -> fmt::Result {
+        match self.0 {
+            None => f.pad("-"),
+            Some(hold) => fmt::Debug::fmt(&f64_from_bits_with_nan(hold.0), f),
+        }
+    }
 }
