@@ -1,5 +1,5 @@
 -- Big-endian numbers: bytes are the digits of their number, and adding one raises the last byte below 255.
-use Rattle.std.proofs.Common.{◌≡◌, ℕ, zero, suc, ◌+◌, ◌-◌, ◌*◌, ◌/◌, ◌%◌, ◌^◌, ◌<◌, true, false, ◌⊎◌, List, [], ◌∷◌, ◌++◌, length, get_or, take, drop, set, replicate, Some, None, sym, refl, ap, ◌∙◌, subst, inl, inr, ⊎_elim, mod-lt, div-lt_iff_lt-mul, add-mul, pow-suc, arith}
+use Rattle.std.proofs.Common.{◌≡◌, ℕ, zero, suc, ◌+◌, ◌-◌, ◌*◌, ◌/◌, ◌%◌, ◌^◌, ◌<◌, ◌⊎◌, List, [], ◌∷◌, ◌++◌, length, get_or, take, drop, set, replicate, Some, None, sym, refl, ap, ◌∙◌, subst, inl, inr, ⊎_elim, mod-lt, div-lt_iff_lt-mul, add-mul, pow-suc, arith}
 use native.Mathlib.Nat.{pow-succ'}
 use lib.ListN.{length-replicate}
 use lib.Arith.{digits_lt, digits_div, digits_mod}
@@ -133,10 +133,10 @@ filled p t z y h e f =
     ∙ ap (λ w. take p t ++ w ∷ replicate (length t - (p + 1)) 0) e
 
 pub incremented_at : (p : ℕ) (t new : List ℕ) → Bytes t → LastBelow t (Some p) → new ≡ take p t ++ (get_or t p 0 + 1) ∷ replicate (length t - (p + 1)) 0
-    → Incremented t new true
+    → Incremented t new (Some tt)
 incremented_at p t new b h e =
     let w = plus_one_digits t _ (raised_at p t b h.0 h.1 h.2) in
     (w.0, e ∙ w.1)
 
-pub incremented_none : (t : List ℕ) → LastBelow t None → Incremented t t false
+pub incremented_none : (t : List ℕ) → LastBelow t None → Incremented t t None
 incremented_none t h = (omega (arith, full_number t (full_from t h)), refl)

@@ -5,12 +5,5 @@ ghost use Rattle.strings.specs.Lexical.{above};
 pub fn compare_greater(a: &[u8], b: &[u8]) -> bool
     ensures { result ≡ above a.now b.now }
 {
-    is_greater(a, b)
-}
-
-// What the library's comparison of slices answers.
-fn is_greater(a: &[u8], b: &[u8]) -> bool
-    ensures { result ≡ above a.now b.now }
-{
     a > b
 }
