@@ -4,17 +4,17 @@ use Rattle.std.specs.Bool.{then_some}
 use Rattle.std.specs.List.{list_all}
 use Rattle.std.specs.Str.{StartsWithNoChar, IsCharBoundary}
 use Rattle.std.proofs.str.Laws.{Follows}
-use Rattle.std.proofs.str.Valid.{of_one, of_two, of_three, of_four}
-use Rattle.std.proofs.str.Faults.{Ranged, no_char}
-use Rattle.std.proofs.lemmas.Bool.{cases_order, cases_lt, and_parts, and_from, leb-true, le-leb, eqb-true, both_ways}
+use Rattle.std.proofs.str.Valid.{of_one, of_two, of_three, of_four, whole}
+use Rattle.std.proofs.str.Faults.{Ranged, no_char, valid_to, not_text}
+use Rattle.std.proofs.lemmas.Bool.{true≢false, ne_eqb, cases_order, cases_lt, and_parts, and_from, leb-true, le-leb, eqb-true, both_ways}
 use Rattle.std.proofs.lemmas.Bool.Decides.{nat_tests}
 use Rattle.std.proofs.lemmas.Str.{IsUtf8-drop, IsCharBoundary-from_take, length-encode, len_utf8_bounds}
 use Rattle.std.proofs.lemmas.List.{get_or-drop, length-drop, length-append}
 use lib.Utf8.{encode}
 use Rattle.texts.specs.Leads.{Leads, lead_length_of, lengths, least, most, second, follower, fits}
 use Rattle.texts.specs.Unicode.{Char, one, two, three_e0, three_low, three_ed, three_high, four_f0, four, four_f4, Text, none, more}
-use Rattle.texts.specs.Steps.{Step}
-use Rattle.texts.proofs.Tables.{utf8_text}
+use Rattle.texts.specs.Steps.{Step, Valid}
+use Rattle.texts.proofs.Tables.{utf8_text, valid_yes, valid_no}
 
 -- which bytes begin characters of which length
 pub data Lead (x : ℕ) : Type 0 where
@@ -349,3 +349,13 @@ entry_value b h =
 
 pub entry_leads : (b r : ℕ) → b < 256 → r ≡ get_or lengths b 0 → (r ≡ lead_length_of b) × Leads b r
 entry_leads b r h e = let v = e ∙ entry_value b h in (v, subst (Leads b) (sym v) (leads b))
+
+-- ---- the end of the walk
+
+pub valid_rest : (bs rest : List ℕ) (k : ℕ) (r : Bool) → k ≤ length bs → rest ≡ drop k bs → IsUtf8 (take k bs) → Step rest None
+    → r ≡ eqb (length rest) 0 → Valid bs r
+valid_rest bs [] k true h e u s f = valid_yes bs (whole bs k (omega (arith, ap length e, length-drop k bs)) u)
+valid_rest bs [] k false h e u s f = absurd (true≢false (sym f))
+valid_rest bs (x ∷ rest) k true h e u s f = absurd (true≢false (f ∙ ne_eqb (suc (length rest)) 0 (λ q. omega arith)))
+valid_rest bs (x ∷ rest) k false h e u s f =
+    valid_no bs (not_text bs k (valid_to bs k (omega (arith, ap length e, length-drop k bs)) u (subst StartsWithNoChar e s)))

@@ -19,7 +19,7 @@ pub(crate) fn last_raised(text: &str) -> Option<(usize, char)>
 fn successor(c: char) -> Option<char>
     ensures { Succeeds c result }
 {
-    let next = char::from_u32(c as u32 + 1)?;
+    let next = char::from_u32(u32::from(c) + 1)?;
     (next.len_utf8() == c.len_utf8()).then_some(next)
 }
 

@@ -11,19 +11,17 @@ pub fn is_utf8(bytes: &[u8]) -> bool
     ensures { Valid bytes.now result }
 {
     let mut rest = bytes;
-    while !rest.is_empty() {
-        let Some(length) = char_length(rest) else {
-            return false;
-        };
+    while let Some(length) = char_length(rest) {
         rest = &rest[length..];
     }
-    true
+    rest.is_empty()
 }
 
 // The bytes as text, absent where they are none.
 pub(crate) fn as_text(bytes: &[u8]) -> Option<&str>
     ensures { AsText bytes.now (option_copied result) }
 {
+    // no `then`: its closure would need a `requires` of its own for the unchecked call, and be no plainer
     if is_utf8(bytes) {
         Some(unsafe { std::str::from_utf8_unchecked(bytes) })
     } else {
@@ -36,7 +34,7 @@ fn char_length(bytes: &[u8]) -> Option<usize>
     ensures { Step bytes.now result }
 {
     let (lead, rest) = bytes.split_first()?;
-    let length = lead_length(*lead) as usize;
+    let length = usize::from(lead_length(*lead));
     let others = rest.get(..length.checked_sub(1)?)?;
     others_fit(*lead, others).then_some(length)
 }
