@@ -6,10 +6,9 @@ ghost use Rattle.texts.specs.Steps.{Succeeds, RaisedAt};
 pub(crate) fn last_raised(text: &str) -> Option<(usize, char)>
     ensures { RaisedAt text.now result }
 {
-    let mut chars = text.chars();
-    while let Some(c) = chars.next_back() {
+    for (at, c) in text.char_indices().rev() {
         if let Some(next) = successor(c) {
-            return Some((chars.as_str().len(), next));
+            return Some((at, next));
         }
     }
     None

@@ -1,4 +1,4 @@
-use Rattle.std.proofs.Common.{◌≡◌, ◌+◌, ◌<◌, ◌≤◌, length, take, drop, IsUtf8, ap, ◌∙◌, subst, arith, rules}
+use Rattle.std.proofs.Common.{◌+◌, ◌≤◌, length, take, drop, IsUtf8, ap, ◌∙◌, subst, arith}
 use Rattle.std.proofs.str.Valid.{longer}
 use Rattle.std.proofs.lemmas.List.{length-drop, drop-drop, take_rest}
 use Rattle.texts.proofs.LeadBytes.{valid_rest}
