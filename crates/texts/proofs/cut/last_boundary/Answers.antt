@@ -1,6 +1,6 @@
 use Rattle.std.proofs.Common.{◌-◌, ◌+◌, take, drop, IsUtf8, subst, arith, rules}
 use Rattle.texts.specs.Steps.{LastLead}
-use Rattle.texts.proofs.Fronts.{front_from_lead}
+use Rattle.texts.proofs.Boundaries.{front_from_lead}
 use Rattle.texts.proofs.cut.last_boundary.Goals as goal
 
 pub returns : goal.returns
