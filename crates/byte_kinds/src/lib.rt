@@ -14,7 +14,9 @@ mod undecorated;
 pub use byte_string::ByteString;
 pub use content::Content;
 pub use decimal::Decimal;
-pub use names::{ByteArray, DecimalByteArray, DecimalFixedLenByteArray, FixedLenByteArray, Utf8String};
+pub use names::{
+    ByteArray, DecimalByteArray, DecimalFixedLenByteArray, FixedLenByteArray, Utf8String,
+};
 pub use storage::{OnByteArray, OnFixed, Storage};
 pub use text::Text;
 pub use undecorated::Undecorated;

@@ -30,5 +30,4 @@ fn are_the_kinds()
     ensures utf8_string { ⟦<Utf8String as Kind>⟧.meaning ≡ utf8_string }
     ensures decimal_byte_array { ⟦<DecimalByteArray as Kind>⟧.meaning ≡ decimal_byte_array }
     ensures decimal_fixed_len_byte_array { ⟦<DecimalFixedLenByteArray as Kind>⟧.meaning ≡ decimal_fixed_len_byte_array }
-{
-}
+{}
