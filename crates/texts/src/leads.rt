@@ -3,7 +3,7 @@ ghost use Rattle.texts.specs.Leads.{Leads, lead_length_of, lengths, second, foll
 
 use crate::lengths::LENGTHS;
 
-// The length of the character that a lead byte begins, or 0.
+// The length of the character that a lead byte begins, or 0 as the table has it, which serves validity and cuts alike.
 pub fn lead_length(byte: u8) -> u8
     ensures value { result ≡ lead_length_of byte }
     ensures rule { Leads byte result }
@@ -11,8 +11,7 @@ pub fn lead_length(byte: u8) -> u8
     entry(byte)
 }
 
-// The table's entry for the byte, by itself: with the rule in one function the proof needs an answer that quotes the
-// table, which then no longer fits a wrong entry, so that no fact is seen to fail.
+// The table's entry for the byte. In one function with the rule, a wrong entry would only make the proof's answer unfit.
 fn entry(byte: u8) -> u8
     ensures { result ≡ slice_index lengths byte }
 {
