@@ -112,9 +112,6 @@ exactly_cut l v h k = record {
 pub exactly_full : (l : ℕ) (v : List ℕ) → Bytes v → l < length v → 256 ^ l ≤ raised l v → Exactly l v false
 exactly_full l v b h k = record { refused = λ _ _. none_reaches l v b h k; needed = λ _ _. refl; short = λ _. refl }
 
-pub exactly_short : (l : ℕ) (v : List ℕ) → length v ≤ l → Exactly l v false
-exactly_short l v h = record { refused = λ g _. absurd (omega arith); needed = λ g _. refl; short = λ _. refl }
-
 -- ---- what the functions answer
 
 pub below_whole : (v : List ℕ) (b : Bound) → b ≡ whole v → CutBelow b v (length v, false)
