@@ -1,10 +1,12 @@
 -- The format's kinds of byte strings: BYTE_ARRAY, FIXED_LEN_BYTE_ARRAY, String, and Decimal on either type.
-use Rattle.std.specs.Prelude.{◌≡◌, ℕ, ◌≤◌, true, false, Some, None, nat_le, refl}
+use Rattle.std.specs.Prelude.{◌≡◌, ℕ, ◌≤◌, true, false, Some, None, Option, nat_le, refl}
 use Rattle.std.proofs.Common.{arith}
 use Rattle.std.proofs.lemmas.Bool.{eqb-true, leb-true, and_parts}
 use Rattle.kinds.specs.Orders.{Order}
 use Rattle.kinds.specs.Cuts.{Cuts, uncut}
-use Rattle.kinds.specs.Meaning.{Meaning, admitted}
+use Rattle.kinds.specs.declared.physical.PhysicalType.{PhysicalType}
+use Rattle.kinds.specs.declared.physical.PhysicalType.TheVariants.{ByteArray, FixedLenByteArray}
+use Rattle.kinds.specs.Meaning.{Meaning, admitted, thrift}
 use Rattle.strings.specs.Lexical.{above}
 use Rattle.strings.specs.Cut as bytes
 use Rattle.strings.proofs.Orders as order_laws
@@ -45,13 +47,13 @@ few_variable w h = omega (arith, eqb-true w 0 h)
 pub few_fixed : (w : ℕ) → admitted None w ≡ true → w ≤ 128
 few_fixed w h = leb-true w 128 (and_parts (nat_le 1 w) (nat_le w 128) h).1
 
--- a kind on BYTE_ARRAY, whose values have each its own length
-abbrev pub on_byte_array : ℕ → (o : Order) → Cuts o → Meaning
-on_byte_array number o cuts = record {
+-- a kind of byte strings on a physical type, by the width that this fixes, its own number, its order and its cuts
+abbrev pub on : (p : PhysicalType) (width : Option ℕ) → ((w : ℕ) → admitted width w ≡ true → w ≤ 128) → ℕ → (o : Order) → Cuts o → Meaning
+on p width few number o cuts = record {
   number = number;
-  physical = 6;
-  width = Some 0;
-  width_few = few_variable;
+  physical = thrift p;
+  width = width;
+  width_few = few;
   order = o;
   has_nan = false;
   nan = λ _. false;
@@ -59,19 +61,13 @@ on_byte_array number o cuts = record {
   cuts = cuts;
 }
 
+-- a kind on BYTE_ARRAY, whose values have each its own length
+abbrev pub on_byte_array : ℕ → (o : Order) → Cuts o → Meaning
+on_byte_array = on ByteArray (Some 0) few_variable
+
 -- a kind on FIXED_LEN_BYTE_ARRAY, whose columns have each its own length
 abbrev pub on_fixed : ℕ → (o : Order) → Cuts o → Meaning
-on_fixed number o cuts = record {
-  number = number;
-  physical = 7;
-  width = None;
-  width_few = few_fixed;
-  order = o;
-  has_nan = false;
-  nan = λ _. false;
-  nan_only = λ _ _. refl;
-  cuts = cuts;
-}
+on_fixed = on FixedLenByteArray None few_fixed
 
 -- BYTE_ARRAY
 abbrev pub byte_array : Meaning

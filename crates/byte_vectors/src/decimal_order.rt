@@ -31,8 +31,6 @@ fn empty_is_lowest(rt: HostRuntime) {
 
 #[test]
 fn never_cut(rt: HostRuntime) {
-    below::<DecimalByteArray>(&rt, &[0xFF, 0x7F, 0x01], 1, &[0xFF, 0x7F, 0x01]);
-    above::<DecimalByteArray>(&rt, &mut [0xFF, 0x7F, 0x01], 1, &[0xFF, 0x7F, 0x01], false);
-    below::<DecimalFixedLenByteArray>(&rt, &[0x12, 0x34], 1, &[0x12, 0x34]);
-    above::<DecimalFixedLenByteArray>(&rt, &mut [0x12, 0x34], 1, &[0x12, 0x34], false);
+    bounds::<DecimalByteArray>(&rt, &[0xFF, 0x7F, 0x01], 1, &[0xFF, 0x7F, 0x01], None);
+    bounds::<DecimalFixedLenByteArray>(&rt, &[0x12, 0x34], 1, &[0x12, 0x34], None);
 }

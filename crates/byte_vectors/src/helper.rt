@@ -1,20 +1,25 @@
 use kinds::Kind;
 use std::process::Abort;
 
-// Checks the lower bound of a value, and that it is cut exactly if it is shorter.
-pub fn below<K: Kind>(rt: &impl Abort, value: &[u8], length: usize, bound: &[u8]) {
+// Checks both bounds of a value: the lower one is cut exactly if it is shorter, and the upper one is absent where the
+// value stays whole.
+pub fn bounds<K: Kind>(
+    rt: &impl Abort,
+    value: &[u8],
+    length: usize,
+    lower: &[u8],
+    upper: Option<&[u8]>,
+) {
     let (n, cut) = K::truncate_min_value(value, length);
-    assert!(rt; n <= value.len());
-    assert!(rt; &value[0..n] == bound);
-    assert!(rt; cut == (bound.len() < value.len()));
-}
-
-// Checks the upper bound of a value in its place.
-pub fn above<K: Kind>(rt: &impl Abort, value: &mut [u8], length: usize, bound: &[u8], cut: bool) {
-    let (n, is_cut) = K::truncate_max_value(value, length);
-    assert!(rt; n <= value.len());
-    assert!(rt; &value[0..n] == bound);
-    assert!(rt; is_cut == cut);
+    assert!(rt; value.get(..n) == Some(lower));
+    assert!(rt; cut == (lower.len() < value.len()));
+    let mut room = [0; 8];
+    assert!(rt; value.len() <= room.len());
+    let copy = &mut room[..value.len()];
+    copy.copy_from_slice(value);
+    let (n, cut) = K::truncate_max_value(copy, length);
+    assert!(rt; copy.get(..n) == Some(upper.unwrap_or(value)));
+    assert!(rt; cut == upper.is_some());
 }
 
 // Checks that a is greater than b, and not the other way round.

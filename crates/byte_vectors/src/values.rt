@@ -1,15 +1,21 @@
-use byte_kinds::{ByteArray, DecimalFixedLenByteArray, FixedLenByteArray};
+use byte_kinds::{
+    ByteArray, DecimalByteArray, DecimalFixedLenByteArray, FixedLenByteArray, Utf8String,
+};
 use kinds::{Kind, ValueOf, admits_width, plain_size};
 
 #[test]
 fn descriptors(rt: HostRuntime) {
-    assert!(rt; <ByteArray as Kind>::descriptor().number == 8);
-    assert!(rt; <FixedLenByteArray as Kind>::descriptor().number == 9);
-    assert!(rt; <byte_kinds::Utf8String as Kind>::descriptor().number == 10);
-    assert!(rt; <byte_kinds::DecimalByteArray as Kind>::descriptor().number == 11);
-    assert!(rt; <DecimalFixedLenByteArray as Kind>::descriptor().number == 12);
-    assert!(rt; <byte_kinds::Utf8String as Kind>::descriptor().physical_type as u8 == 6);
-    assert!(rt; <DecimalFixedLenByteArray as Kind>::descriptor().physical_type as u8 == 7);
+    assert!(rt; numbers::<ByteArray>() == (8, 6));
+    assert!(rt; numbers::<FixedLenByteArray>() == (9, 7));
+    assert!(rt; numbers::<Utf8String>() == (10, 6));
+    assert!(rt; numbers::<DecimalByteArray>() == (11, 6));
+    assert!(rt; numbers::<DecimalFixedLenByteArray>() == (12, 7));
+}
+
+// The kind's own number, and that of its physical type.
+fn numbers<K: Kind>() -> (u8, u8) {
+    let descriptor = K::descriptor();
+    (descriptor.number, descriptor.physical_type as u8)
 }
 
 #[test]

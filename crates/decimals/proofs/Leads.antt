@@ -1,91 +1,144 @@
--- A number against one that is sign-extended to its length: the bytes ahead decide, or the tails do.
-use Rattle.std.proofs.Common.{◌≡◌, ℕ, ◌+◌, ◌-◌, ◌<◌, ◌≤◌, Bool, true, false, not, eqb, ltb, List, [], ◌∷◌, ◌++◌, length, get_or, take, drop, replicate, sym, refl, ap, ◌∙◌, ⊎_elim, arith}
-use Rattle.std.proofs.lemmas.Bool.{cases_eq, cond-true, cond-false, lt-ltb, eq-eqb, ne_eqb, false≢true, true≢false}
-use Rattle.std.proofs.lemmas.List.{take-append-drop, length-take-le, at_drop_more, at_drop_all}
+-- Numbers of one sign: bytes ahead that are no sign extension decide, and otherwise the last bytes do.
+use Rattle.std.proofs.Common.{◌≡◌, ◌≢◌, ℕ, min, zero, suc, ◌+◌, ◌-◌, ◌<◌, ◌≤◌, Bool, true, false, not, eqb, ltb, List, [], ◌∷◌, ◌++◌, length, take, drop, replicate, Some, Option, sym, refl, ap, ◌∙◌, ⊎_elim, append_assoc, arith}
+use Rattle.std.specs.List.{list_all}
+use Rattle.std.specs.Bool.{then_some}
+use Rattle.std.specs.Borrow.{Bor}
+use Rattle.std.specs.Option.{option_copied}
+use Rattle.std.proofs.lemmas.Bool.{cases_eq, cases_lt, cond-true, cond-false, lt-ltb, eq-eqb, ne_eqb, eqb-true, and_parts, and_from, true≢false}
+use Rattle.std.proofs.lemmas.List.{take-append-drop, length-take-le, length-drop, take_at, length-replicate, replicate-append-replicate}
 use Rattle.strings.specs.Lexical.{above, Bytes}
 use Rattle.strings.proofs.Orders.{one_way}
 use Rattle.strings.proofs.Numbers.{bytes_take}
-use Rattle.decimals.specs.Extensions.{extension, extended, differs}
+use Rattle.decimals.specs.Extensions.{extension, extended, sign, Unextended}
+use Rattle.decimals.specs.Decimals.{decimal}
+use Rattle.decimals.proofs.Values.{length-extended, signed_of, greater_there, greater_extended}
 
--- where the bytes ahead are all e, the tails decide
-pub same_lead : (e : ℕ) (u a b : List ℕ) → differs u e ≡ false → (above (u ++ a) (replicate (length u) e ++ b) ≡ above a b) × (above (replicate (length u) e ++ b) (u ++ a) ≡ above b a)
-same_lead e [] a b h = (refl, refl)
-same_lead e (x ∷ u) a b h =
-    ⊎_elim
-    (λ q.
-    let r = same_lead e u a b (sym (cond-true (eqb x e) (differs u e) true (eq-eqb x e q)) ∙ h) in (
-      cond-true (eqb x e) (above (u ++ a) (replicate (length u) e ++ b)) (ltb e x) (eq-eqb x e q) ∙ r.0,
-      cond-true (eqb e x) (above (replicate (length u) e ++ b) (u ++ a)) (ltb x e) (eq-eqb e x (sym q)) ∙ r.1,
-    ))
-    (λ q. absurd (true≢false (sym (cond-false (eqb x e) (differs u e) true (ne_eqb x e q)) ∙ h)))
-    (cases_eq x e)
+-- a shared lead does not matter
+same_lead : (k e : ℕ) (a b : List ℕ) → above (replicate k e ++ a) (replicate k e ++ b) ≡ above a b
+same_lead zero e a b = refl
+same_lead (suc k) e a b =
+    cond-true (eqb e e) (above (replicate k e ++ a) (replicate k e ++ b)) (ltb e e) (eq-eqb e e refl) ∙ same_lead k e a b
 
 -- where one is not 0, the bytes are above 0s
-above_zeros : (u a b : List ℕ) → differs u 0 ≡ true → above (u ++ a) (replicate (length u) 0 ++ b) ≡ true
-above_zeros [] a b h = absurd (false≢true h)
+above_zeros : (u a b : List ℕ) → u ≢ replicate (length u) 0 → above (u ++ a) (replicate (length u) 0 ++ b) ≡ true
+above_zeros [] a b h = absurd (h refl)
 above_zeros (x ∷ u) a b h =
     ⊎_elim
     (λ q.
     cond-true (eqb x 0) (above (u ++ a) (replicate (length u) 0 ++ b)) (ltb 0 x) (eq-eqb x 0 q)
-    ∙ above_zeros u a b (sym (cond-true (eqb x 0) (differs u 0) true (eq-eqb x 0 q)) ∙ h))
+    ∙ above_zeros u a b (λ e. h (λ i. q i ∷ e i)))
     (λ q. cond-false (eqb x 0) (above (u ++ a) (replicate (length u) 0 ++ b)) (ltb 0 x) (ne_eqb x 0 q) ∙ lt-ltb 0 x (omega arith))
     (cases_eq x 0)
 
 -- where one is not 255, 255s are above the bytes
-above_full : (u a b : List ℕ) → Bytes u → differs u 255 ≡ true → above (replicate (length u) 255 ++ b) (u ++ a) ≡ true
-above_full [] a b t h = absurd (false≢true h)
+above_full : (u a b : List ℕ) → Bytes u → u ≢ replicate (length u) 255 → above (replicate (length u) 255 ++ b) (u ++ a) ≡ true
+above_full [] a b t h = absurd (h refl)
 above_full (x ∷ u) a b t h =
     ⊎_elim
     (λ q.
     cond-true (eqb 255 x) (above (replicate (length u) 255 ++ b) (u ++ a)) (ltb x 255) (eq-eqb 255 x (sym q))
-    ∙ above_full u a b t.1 (sym (cond-true (eqb x 255) (differs u 255) true (eq-eqb x 255 q)) ∙ h))
+    ∙ above_full u a b t.1 (λ e. h (λ i. q i ∷ e i)))
     (λ q. cond-false (eqb 255 x) (above (replicate (length u) 255 ++ b) (u ++ a)) (ltb x 255) (ne_eqb 255 x (λ e. q (sym e))) ∙ lt-ltb x 255 (omega (arith, t.0)))
     (cases_eq x 255)
 
-pub other_lead : (n : Bool) (u a b : List ℕ) → Bytes u → differs u (extension n) ≡ true
+other_lead : (n : Bool) (u a b : List ℕ) → Bytes u → u ≢ replicate (length u) (extension n)
     → (above (u ++ a) (replicate (length u) (extension n) ++ b) ≡ not n) × (above (replicate (length u) (extension n) ++ b) (u ++ a) ≡ n)
 other_lead true u a b t h = let r = above_full u a b t h in (one_way (replicate (length u) 255 ++ b) (u ++ a) r, r)
 other_lead false u a b t h = let r = above_zeros u a b h in (r, one_way (u ++ a) (replicate (length u) 0 ++ b) r)
 
--- ---- what the functions find, over k bytes ahead
+-- ---- against a shorter number
 
-pub longer_other : (n : Bool) (k e : ℕ) (a b : List ℕ) → k ≡ length a - length b → e ≡ extension n → Bytes a → length b ≤ length a
-    → differs (take k a) e ≡ true → not n ≡ above a (extended (length a) n b)
-longer_other n k e a b h f t l d =
-    let u : length (take k a) ≡ length a - length b = length-take-le k a (omega arith) ∙ h in
-    let r = other_lead n (take k a) (drop k a) b (bytes_take k a t) (ap (differs (take k a)) (sym f) ∙ d) in
-    sym r.0 ∙ (λ i. above (take-append-drop k a i) (replicate (u i) (extension n) ++ b))
+extended_self : (n : Bool) (a : List ℕ) → a ≡ extended (length a) n a
+extended_self n a = let z : 0 ≡ length a - length a = omega arith in ap (λ k. replicate k (extension n) ++ a) z
 
-pub longer-same : (n : Bool) (k e : ℕ) (a b : List ℕ) → k ≡ length a - length b → e ≡ extension n → length b ≤ length a
-    → differs (take k a) e ≡ false → above (drop k a) b ≡ above a (extended (length a) n b)
-longer-same n k e a b h f l d =
-    let u : length (take k a) ≡ length a - length b = length-take-le k a (omega arith) ∙ h in
-    let r = same_lead (extension n) (take k a) (drop k a) b (ap (differs (take k a)) (sym f) ∙ d) in
-    sym r.0 ∙ (λ i. above (take-append-drop k a i) (replicate (u i) (extension n) ++ b))
+-- what is none of m bytes, sign-extended, has more
+longer : (n : Bool) (m k : ℕ) (a : List ℕ) → m ≡ min (length a) k → ((t : List ℕ) → length t ≡ m → a ≢ extended (length a) n t) → k < length a
+longer n m k a e f = ⊎_elim (λ h. h) (λ h. absurd (f a (omega arith) (extended_self n a))) (cases_lt k (length a))
 
-pub shorter_other : (n : Bool) (k e : ℕ) (a b : List ℕ) → k ≡ length b - length a → e ≡ extension n → Bytes b → length a ≤ length b
-    → differs (take k b) e ≡ true → n ≡ above (extended (length b) n a) b
-shorter_other n k e a b h f t l d =
-    let u : length (take k b) ≡ length b - length a = length-take-le k b (omega arith) ∙ h in
-    let r = other_lead n (take k b) (drop k b) a (bytes_take k b t) (ap (differs (take k b)) (sym f) ∙ d) in
-    sym r.1 ∙ (λ i. above (replicate (u i) (extension n) ++ a) (take-append-drop k b i))
+-- and decides against any number of m bytes, by its own sign
+other_extended : (n : Bool) (m : ℕ) (a b : List ℕ) → Bytes a → m ≡ length b → m ≤ length a
+    → ((t : List ℕ) → length t ≡ m → a ≢ extended (length a) n t)
+    → (above a (extended (length a) n b) ≡ not n) × (above (extended (length a) n b) a ≡ n)
+other_extended n m a b p e h f =
+    let k = length a - length b in
+    let u : length (take k a) ≡ k = length-take-le k a (omega arith) in
+    let d : length a - length (drop k a) ≡ length (take k a) = omega (arith, length-drop k a) in
+    let w : take k a ≢ replicate (length (take k a)) (extension n) =
+    λ q. f (drop k a) (omega (arith, length-drop k a)) (sym (take-append-drop k a) ∙ ap (λ x. x ++ drop k a) q ∙ ap (λ j. replicate j (extension n) ++ drop k a) (sym d)) in
+    let r = other_lead n (take k a) (drop k a) b (bytes_take k a p) w in (
+      (λ i. above (sym (take-append-drop k a) i) (replicate (sym u i) (extension n) ++ b)) ∙ r.0,
+      (λ i. above (replicate (sym u i) (extension n) ++ b) (sym (take-append-drop k a) i)) ∙ r.1,
+    )
 
-pub shorter_same : (n : Bool) (k e : ℕ) (a b : List ℕ) → k ≡ length b - length a → e ≡ extension n → length a ≤ length b
-    → differs (take k b) e ≡ false → above a (drop k b) ≡ above (extended (length b) n a) b
-shorter_same n k e a b h f l d =
-    let u : length (take k b) ≡ length b - length a = length-take-le k b (omega arith) ∙ h in
-    let r = same_lead (extension n) (take k b) (drop k b) a (ap (differs (take k b)) (sym f) ∙ d) in
-    sym r.1 ∙ (λ i. above (replicate (u i) (extension n) ++ a) (take-append-drop k b i))
+-- ---- of equal length without their sign extension
 
--- ---- the walk over the bytes ahead
+extended_again : (n : Bool) (m l : ℕ) (t : List ℕ) → length t ≤ l → l ≤ m → extended m n (extended l n t) ≡ extended m n t
+extended_again n m l t h k =
+    ap (λ j. replicate (m - j) (extension n) ++ extended l n t) (length-extended l n t h)
+    ∙ sym (append_assoc (replicate (m - l) (extension n)) (replicate (l - length t) (extension n)) t)
+    ∙ ap (λ x. x ++ t) (replicate-append-replicate (m - l) (l - length t) (extension n) ∙ ap (λ j. replicate j (extension n)) (omega arith))
 
-pub differs_here : (xs : List ℕ) (i e : ℕ) → i < length xs → differs xs e ≡ differs (drop i xs) e → (get_or xs i 0 ≡ e → ⊥) → true ≡ differs xs e
-differs_here xs i e h d n =
-    sym (d ∙ at_drop_more (λ t. differs t e) xs i 0 h ∙ cond-false (eqb (get_or xs i 0) e) (differs (drop (i + 1) xs) e) true (ne_eqb (get_or xs i 0) e n))
+-- two numbers in m bytes compare as their last l bytes do, where these are the numbers without sign extension
+last_above : (n : Bool) (m l : ℕ) (a b s t : List ℕ) → length a ≤ m → length b ≤ m → l ≤ length a → l ≤ length b
+    → length s ≡ l → length t ≡ l → a ≡ extended (length a) n s → b ≡ extended (length b) n t
+    → above (extended m n a) (extended m n b) ≡ above s t
+last_above n m l a b s t ha hb ka kb ls lt ea eb =
+    let da : extended m n a ≡ extended m n s = ap (extended m n) ea ∙ extended_again n m (length a) s (omega arith) ha in
+    let db : extended m n b ≡ extended m n t = ap (extended m n) eb ∙ extended_again n m (length b) t (omega arith) hb in
+    (λ i. above (da i) (db i)) ∙ ap (λ j. above (replicate (m - length s) (extension n) ++ s) (replicate (m - j) (extension n) ++ t)) (lt ∙ sym ls)
+    ∙ same_lead (m - length s) (extension n) s t
 
-pub differs_past : (xs : List ℕ) (i e : ℕ) → i < length xs → differs xs e ≡ differs (drop i xs) e → get_or xs i 0 ≡ e → differs xs e ≡ differs (drop (i + 1) xs) e
-differs_past xs i e h d n =
-    d ∙ at_drop_more (λ t. differs t e) xs i 0 h ∙ cond-true (eqb (get_or xs i 0) e) (differs (drop (i + 1) xs) e) true (eq-eqb (get_or xs i 0) e n)
+-- ---- which of two numbers of one sign is greater, where m is the length of the shorter
 
-pub differs_none : (xs : List ℕ) (i e : ℕ) → length xs ≤ i → differs xs e ≡ differs (drop i xs) e → false ≡ differs xs e
-differs_none xs i e h d = sym (d ∙ at_drop_all (λ t. differs t e) xs i h)
+module _ (n : Bool) (m : ℕ) (a b : List ℕ) (p : Bytes a) (q : Bytes b) (s : sign a ≡ Some n) (t : sign b ≡ Some n) (e : m ≡ min (length a) (length b)) where
+  in_bytes : (l : ℕ) → length a ≤ l → length b ≤ l → decimal.greater a b ≡ above (extended l n a) (extended l n b)
+  in_bytes l h k = greater_there n n a b s t ∙ greater_extended n l a b p q (signed_of n a p s) (signed_of n b q t) h k
+
+  pub first_decides : ((x : List ℕ) → length x ≡ m → a ≢ extended (length a) n x) → not n ≡ decimal.greater a b
+  first_decides f =
+      let h : length b < length a = longer n m (length b) a e f in
+      sym (in_bytes (length a) (omega arith) (omega arith) ∙ ap (λ x. above x (extended (length a) n b)) (sym (extended_self n a))
+      ∙ (other_extended n m a b p (omega arith) (omega arith) f).0)
+
+  pub second_decides : ((x : List ℕ) → length x ≡ m → b ≢ extended (length b) n x) → n ≡ decimal.greater a b
+  second_decides f =
+      let h : length a < length b = longer n m (length a) b (omega arith) f in
+      sym (in_bytes (length b) (omega arith) (omega arith) ∙ ap (λ x. above (extended (length b) n a) x) (sym (extended_self n b))
+      ∙ (other_extended n m b a q (omega arith) (omega arith) f).1)
+
+  pub last_decide : (x y : List ℕ) → (length x ≡ m) × (a ≡ extended (length a) n x) → (length y ≡ m) × (b ≡ extended (length b) n y)
+      → above x y ≡ decimal.greater a b
+  last_decide x y f g =
+      sym (in_bytes (length a + length b) (omega arith) (omega arith)
+      ∙ last_above n (length a + length b) m a b x y (omega arith) (omega arith) (omega arith) (omega arith) f.0 g.0 f.1 g.1)
+
+-- ---- what the test of the bytes ahead says
+
+all_same : (e : ℕ) (u : List ℕ) → list_all (λ x. eqb x e) u ≡ true → u ≡ replicate (length u) e
+all_same e [] h = refl
+all_same e (x ∷ u) h = let p = and_parts (eqb x e) (list_all (λ x. eqb x e) u) h in λ i. eqb-true x e p.0 i ∷ all_same e u p.1 i
+
+same_all : (e k : ℕ) → list_all (λ x. eqb x e) (replicate k e) ≡ true
+same_all e zero = refl
+same_all e (suc k) = and_from (eqb e e) (list_all (λ x. eqb x e) (replicate k e)) (eq-eqb e e refl) (same_all e k)
+
+unextended_by : (n : Bool) (m : ℕ) (v lead last : List ℕ) (r : Bool) → m ≤ length v → lead ≡ take (length v - m) v → last ≡ drop (length v - m) v
+    → r ≡ list_all (λ x. eqb x (extension n)) lead → Unextended m n v (then_some r last)
+unextended_by n m v lead last true h f g e =
+    let k = length v - m in
+    let u : length lead ≡ length v - length last = omega (arith, ap length f, ap length g, length-take-le k v (omega arith), length-drop k v) in (
+      omega (arith, ap length g, length-drop k v),
+      sym (take-append-drop k v) ∙ (λ i. sym f i ++ sym g i) ∙ ap (λ x. x ++ last) (all_same (extension n) lead (sym e)) ∙ ap (λ j. replicate j (extension n) ++ last) u,
+    )
+unextended_by n m v lead last false h f g e = λ t q w.
+    let k = length v - m in
+    let j = length v - length t in
+    let u : length (replicate j (extension n)) ≡ k = omega (arith, length-replicate {A = ℕ} j (extension n)) in
+    let d : lead ≡ replicate j (extension n) = f ∙ ap (take k) w ∙ take_at (replicate j (extension n)) t k u in
+    true≢false (sym (same_all (extension n) j) ∙ ap (list_all (λ x. eqb x (extension n))) (sym d) ∙ sym e)
+
+-- so what the test answers
+pub unextended_is : (n : Bool) (m : ℕ) (v : List ℕ) (o : Option (Bor (List ℕ))) (lead last : Bor (List ℕ)) (r : Bool) → o ≡ then_some r last → m ≤ length v
+    → lead.now ≡ take (length v - m) v → last.now ≡ drop (length v - m) v → r ≡ list_all (λ x. eqb x (extension n)) lead.now → Unextended m n v (option_copied o)
+unextended_is n m v o lead last true w h f g e = rw w (unextended_by n m v lead.now last.now true h f g e)
+unextended_is n m v o lead last false w h f g e = rw w (unextended_by n m v lead.now last.now false h f g e)

@@ -1,17 +1,18 @@
 -- Two's complement: sign extension keeps the value, and numbers of one sign and length compare as their bytes do.
-use Rattle.std.proofs.Common.{◌≡◌, ℕ, zero, suc, ◌+◌, ◌-◌, ◌*◌, ◌^◌, ◌<◌, ◌≤◌, Bool, true, false, not, eqb, ltb, leb, List, [], ◌∷◌, ◌++◌, length, get_or, replicate, pos, negsuc, ◌-ℤ◌, sym, refl, ap, ◌∙◌, ⊎_elim, mul-le-mul_right, arith}
+use Rattle.std.proofs.Common.{◌≡◌, ℕ, zero, suc, ◌+◌, ◌-◌, ◌*◌, ◌^◌, ◌<◌, ◌≤◌, Bool, true, false, not, eqb, ltb, leb, List, [], ◌∷◌, ◌++◌, length, replicate, Some, pos, negsuc, ◌-ℤ◌, sym, refl, ap, ◌∙◌, ⊎_elim, mul-le-mul_right, arith}
 use mathlib.Core.Bool.{beq}
 use native.Mathlib.Nat.{pow-succ'}
 use lib.Arith.{digits_lt}
 use lib.Signed.{lt_z}
 use Rattle.std.proofs.lemmas.Int.{ints}
+use Rattle.std.proofs.lemmas.Option.{none-some, same_Some}
 use Rattle.std.proofs.lemmas.Bool.{cases_order, cases_lt, cond-true, cond-false, lt-ltb, le-ltb, leb-true, leb-false, eq-eqb, ne_eqb, false≢true, true≢false}
 use Rattle.std.proofs.lemmas.List.{length-append, length-replicate}
 use Rattle.strings.specs.Lexical.{above, Bytes}
 use Rattle.strings.specs.Numbers.{number}
 use Rattle.strings.proofs.Numbers.{number_lt}
 use Rattle.decimals.specs.Decimals.{value, decimal}
-use Rattle.decimals.specs.Extensions.{extension, extended}
+use Rattle.decimals.specs.Extensions.{extension, extended, sign}
 
 -- ---- the value, by the first byte
 
@@ -116,19 +117,15 @@ pub length-extended : (m : ℕ) (n : Bool) (b : List ℕ) → length b ≤ m →
 length-extended m n b h =
     length-append (replicate (m - length b) (extension n)) b ∙ omega (arith, length-replicate {A = ℕ} (m - length b) (extension n))
 
--- ---- which of two numbers of one sign is greater
+-- ---- which of two numbers of one sign is greater, in m bytes
 
-pub greater-longer : (n : Bool) (a b : List ℕ) → Bytes a → Bytes b → Signed n a → Signed n b → length b ≤ length a
-    → lt_z (value b) (value a) ≡ above a (extended (length a) n b)
-greater-longer n a b p q s t h =
-    let e = extends n (length a - length b) b q t in
-    ap (λ z. lt_z z (value a)) (sym e.same) ∙ same_sign n a (extended (length a) n b) p e.bytes (sym (length-extended (length a) n b h)) s e.signed
-
-pub greater_shorter : (n : Bool) (a b : List ℕ) → Bytes a → Bytes b → Signed n a → Signed n b → length a ≤ length b
-    → lt_z (value b) (value a) ≡ above (extended (length b) n a) b
-greater_shorter n a b p q s t h =
-    let e = extends n (length b - length a) a p s in
-    ap (λ z. lt_z (value b) z) (sym e.same) ∙ same_sign n (extended (length b) n a) b e.bytes q (length-extended (length b) n a h) e.signed t
+pub greater_extended : (n : Bool) (m : ℕ) (a b : List ℕ) → Bytes a → Bytes b → Signed n a → Signed n b → length a ≤ m → length b ≤ m
+    → lt_z (value b) (value a) ≡ above (extended m n a) (extended m n b)
+greater_extended n m a b p q s t h k =
+    let d = extends n (m - length a) a p s in
+    let e = extends n (m - length b) b q t in
+    (λ i. lt_z (sym e.same i) (sym d.same i))
+    ∙ same_sign n (extended m n a) (extended m n b) d.bytes e.bytes (length-extended m n a h ∙ sym (length-extended m n b k)) d.signed e.signed
 
 -- and of two numbers of different sign
 pub other_signs : (n m : Bool) (a b : List ℕ) → Bytes a → Bytes b → Signed n a → Signed m b → not (beq m n) ≡ true → lt_z (value b) (value a) ≡ not n
@@ -145,11 +142,11 @@ one_sign false true d = absurd (true≢false d)
 
 -- ---- numbers that are there
 
-pub signed_of : (n : Bool) (v : List ℕ) → Bytes v → 0 < length v → n ≡ leb 128 (get_or v 0 0) → Signed n v
-signed_of n [] b h e = absurd (omega arith)
-signed_of n (x ∷ v) b h e = signed-first n x v b.1 e
+pub signed_of : (n : Bool) (v : List ℕ) → Bytes v → sign v ≡ Some n → Signed n v
+signed_of n [] b e = absurd (none-some n e)
+signed_of n (x ∷ v) b e = signed-first n x v b.1 (sym (same_Some (leb 128 x) n e))
 
-pub greater_there : (a b : List ℕ) → 0 < length a → 0 < length b → decimal.greater a b ≡ lt_z (value b) (value a)
-greater_there [] b h k = absurd (omega arith)
-greater_there (x ∷ a) [] h k = absurd (omega arith)
-greater_there (x ∷ a) (y ∷ b) h k = refl
+pub greater_there : (n m : Bool) (a b : List ℕ) → sign a ≡ Some n → sign b ≡ Some m → decimal.greater a b ≡ lt_z (value b) (value a)
+greater_there n m [] b e f = absurd (none-some n e)
+greater_there n m (x ∷ a) [] e f = absurd (none-some m f)
+greater_there n m (x ∷ a) (y ∷ b) e f = refl

@@ -1,5 +1,5 @@
 -- Sign extension: a two's complement number in more bytes.
-use Rattle.std.specs.Prelude.{ℕ, ◌-◌, Bool, true, false, cond, List, [], ◌∷◌, ◌++◌, length, replicate, ◌==◌}
+use Rattle.std.specs.Prelude.{◌≡◌, ◌≢◌, ℕ, ◌-◌, Bool, cond, List, [], ◌∷◌, ◌++◌, length, replicate, Some, None, Option, nat_le}
 
 -- the byte that a number can have ahead of it
 abbrev pub extension : Bool → ℕ
@@ -9,7 +9,12 @@ extension negative = cond negative 255 0
 abbrev pub extended : ℕ → Bool → List ℕ → List ℕ
 extended n negative b = replicate (n - length b) (extension negative) ++ b
 
--- some byte is not e
-abbrev pub differs : List ℕ → ℕ → Bool
-differs [] e = false
-differs (x ∷ xs) e = cond (x == e) (differs xs e) true
+-- whether a number is negative, by its first byte; the empty one has no sign
+abbrev pub sign : List ℕ → Option Bool
+sign [] = None
+sign (x ∷ v) = Some (nat_le 128 x)
+
+-- what asking for the last n bytes of v answers: absent exactly if v is not these, sign-extended
+abbrev pub Unextended : ℕ → Bool → List ℕ → Option (List ℕ) → Type 0
+Unextended n negative v (Some t) = (length t ≡ n) × (v ≡ extended (length v) negative t)
+Unextended n negative v None = (t : List ℕ) → length t ≡ n → v ≢ extended (length v) negative t

@@ -1,7 +1,8 @@
-ghost use Rattle.std.specs.Prelude.{◌≡◌, ◌≤◌, length, nat_le};
+ghost use Rattle.std.specs.Prelude.{◌≡◌, ◌≤◌, length, ◌==◌};
+ghost use Rattle.std.specs.List.{list_all};
+ghost use Rattle.std.specs.Option.{option_copied};
 ghost use Rattle.decimals.specs.Decimals.{decimal};
-ghost use Rattle.decimals.specs.Extensions.{extension, extended, differs};
-ghost use Rattle.strings.specs.Lexical.{above};
+ghost use Rattle.decimals.specs.Extensions.{extension, sign, Unextended};
 
 use strings::compare_greater;
 
@@ -9,68 +10,46 @@ use strings::compare_greater;
 pub fn compare_greater_byte_array_decimals(a: &[u8], b: &[u8]) -> bool
     ensures { result ≡ decimal.greater a.now b.now }
 {
-    if a.len() == 0 {
+    let Some(negative) = is_negative(a) else {
         return false;
-    }
-    if b.len() == 0 {
+    };
+    let Some(other) = is_negative(b) else {
         return true;
-    }
-    let negative = is_negative(a[0]);
-    if is_negative(b[0]) != negative {
+    };
+    if other != negative {
         return !negative;
     }
-    if a.len() > b.len() {
-        longer_greater(a, b, negative)
-    } else {
-        shorter_greater(a, b, negative)
-    }
-}
-
-// The sign of the number that the byte begins.
-fn is_negative(first: u8) -> bool
-    ensures { result ≡ nat_le 128 first }
-{
-    0x80 <= first
-}
-
-// The byte that sign extension puts ahead of a number.
-fn extension_byte(negative: bool) -> u8
-    ensures { result ≡ extension negative }
-{
-    if negative { 0xFF } else { 0 }
-}
-
-fn any_differs(lead: &[u8], byte: u8) -> bool
-    ensures { result ≡ differs lead.now byte }
-{
-    for x in lead {
-        if *x != byte {
-            return true;
-        }
-    }
-    false
-}
-
-// Numbers of one sign: a byte of a ahead of b's length that is no sign extension gives a the larger
-// magnitude, and otherwise the tails decide, unsigned.
-fn longer_greater(a: &[u8], b: &[u8], negative: bool) -> bool
-    requires { length b.now ≤ length a.now }
-    ensures { result ≡ above a.now (extended (length a.now) negative b.now) }
-{
-    let lead = a.len() - b.len();
-    if any_differs(&a[0..lead], extension_byte(negative)) {
+    // of one sign: more bytes give the larger magnitude, unless they are sign extension
+    let length = a.len().min(b.len());
+    let Some(a_last) = unextended(a, length, negative) else {
         return !negative;
-    }
-    compare_greater(&a[lead..], b)
-}
-
-fn shorter_greater(a: &[u8], b: &[u8], negative: bool) -> bool
-    requires { length a.now ≤ length b.now }
-    ensures { result ≡ above (extended (length b.now) negative a.now) b.now }
-{
-    let lead = b.len() - a.len();
-    if any_differs(&b[0..lead], extension_byte(negative)) {
+    };
+    let Some(b_last) = unextended(b, length, negative) else {
         return negative;
-    }
-    compare_greater(a, &b[lead..])
+    };
+    compare_greater(a_last, b_last)
+}
+
+// The sign of a number, absent for the empty one.
+fn is_negative(number: &[u8]) -> Option<bool>
+    ensures { result ≡ sign number.now }
+{
+    number.first().map(|first| 0x80 <= *first)
+}
+
+// So many last bytes of a number, absent if what stands ahead of them is no sign extension.
+fn unextended<'a>(number: &'a [u8], count: usize, negative: bool) -> Option<&'a [u8]>
+    requires { count ≤ length number.now }
+    ensures { Unextended count negative number.now (option_copied result) }
+{
+    let (lead, last) = number.split_at(number.len() - count);
+    is_extension(lead, negative).then_some(last)
+}
+
+// Whether each byte is the one that sign extension puts ahead of a number.
+fn is_extension(lead: &[u8], negative: bool) -> bool
+    ensures { result ≡ list_all (λ x. x == extension negative) lead.now }
+{
+    let extension = if negative { 0xFF } else { 0 };
+    lead.iter().all(|byte| *byte == extension)
 }

@@ -1,5 +1,5 @@
 -- The cuts of bytes: their laws over all strings, and that the upper one is refused exactly where no string reaches.
-use Rattle.std.proofs.Common.{◌≡◌, ℕ, zero, suc, ◌+◌, ◌*◌, ◌/◌, ◌%◌, ◌^◌, ◌<◌, ◌≤◌, true, false, ◌&&◌, ltb, List, [], ◌∷◌, ◌++◌, length, take, drop, sym, refl, ap, ◌∙◌, subst, inl, inr, ⊎_elim, mul-le-mul_right, mod-lt, add-mul, div-add-mod', arith}
+use Rattle.std.proofs.Common.{◌≡◌, ℕ, zero, suc, ◌+◌, ◌*◌, ◌/◌, ◌%◌, ◌^◌, ◌<◌, ◌≤◌, Bool, true, false, ◌&&◌, ltb, List, [], ◌∷◌, ◌++◌, length, take, drop, sym, refl, Some, None, Option, MatchOption, ap, ◌∙◌, subst, inl, inr, ⊎_elim, mul-le-mul_right, mod-lt, add-mul, div-add-mod', arith}
 use Rattle.std.proofs.lemmas.Bool.{cases_lt, lt-ltb, le-ltb, cond-true, cond-false, and_from, and_left, and_right, true≢false}
 use Rattle.std.proofs.lemmas.List.{length-take-le, append-nil, take_all, drop_all, take-append-drop}
 use Rattle.kinds.specs.Cuts.{Bound, whole, Shortens, whole_shortens, CutBelow, CutAbove}
@@ -112,9 +112,6 @@ exactly_cut l v h k = record {
 pub exactly_full : (l : ℕ) (v : List ℕ) → Bytes v → l < length v → 256 ^ l ≤ raised l v → Exactly l v false
 exactly_full l v b h k = record { refused = λ _ _. none_reaches l v b h k; needed = λ _ _. refl; short = λ _. refl }
 
-pub exactly_short : (l : ℕ) (v : List ℕ) → length v ≤ l → Exactly l v false
-exactly_short l v h = record { refused = λ g _. absurd (omega arith); needed = λ g _. refl; short = λ _. refl }
-
 -- ---- what the functions answer
 
 pub below_whole : (v : List ℕ) (b : Bound) → b ≡ whole v → CutBelow b v (length v, false)
@@ -134,23 +131,26 @@ pub above-cut : (n : ℕ) (v after bs : List ℕ) (b : Bound) → b ≡ shortene
 above-cut n v after bs b e h a =
     subst (λ b. CutAbove b v after (n, true)) (sym e) (record { long = sym h; cut = refl; bound = a ∙ ap (λ k. bs ++ drop k v) (sym h) })
 
--- the front of k bytes, which is l, was incremented to new
-pub max_cut : (l k : ℕ) (v new : List ℕ) → k ≡ l → l < length v → Incremented (take k v) new true
-    → CutAbove (upper l v) v (new ++ drop k v) (l, true) × Exactly l v true
-max_cut l k v new e h i =
-    let n : length (take k v) ≡ l = length-take-le k v (omega arith) ∙ e in
-    let f : number (take k v) + 1 ≡ raised l v = ap (λ m. number (take m v) + 1) e in
-    let fits : raised l v < 256 ^ l = omega (arith, i.0, f, ap (λ m. 256 ^ m) n) in
-    let d : new ≡ digits l (raised l v) = i.1 ∙ (λ j. digits (n j) (f j)) in (
-      above-cut l v (new ++ drop k v) (digits l (raised l v)) (upper l v) (upper-cut l v h fits) (length_digits l (raised l v)) (λ j. d j ++ drop (e j) v),
+-- the front of l bytes was incremented to new
+max_cut : (l : ℕ) (v new : List ℕ) → l < length v → Incremented (take l v) new (Some tt)
+    → CutAbove (upper l v) v (new ++ drop l v) (l, true) × Exactly l v true
+max_cut l v new h i =
+    let n : length (take l v) ≡ l = length-take-le l v (omega arith) in
+    let fits : raised l v < 256 ^ l = omega (arith, i.0, ap (λ m. 256 ^ m) n) in
+    let d : new ≡ digits l (raised l v) = i.1 ∙ ap (λ m. digits m (raised l v)) n in (
+      above-cut l v (new ++ drop l v) (digits l (raised l v)) (upper l v) (upper-cut l v h fits) (length_digits l (raised l v)) (ap (λ t. t ++ drop l v) d),
       exactly_cut l v h fits,
     )
 
-pub max_full : (l k : ℕ) (v new : List ℕ) → k ≡ l → Bytes v → l < length v → Incremented (take k v) new false
-    → CutAbove (upper l v) v (new ++ drop k v) (length (new ++ drop k v), false) × Exactly l v false
-max_full l k v new e b h i =
-    let n : length (take k v) ≡ l = length-take-le k v (omega arith) ∙ e in
-    let f : number (take k v) + 1 ≡ raised l v = ap (λ m. number (take m v) + 1) e in
-    let full : 256 ^ l ≤ raised l v = omega (arith, i.0, f, ap (λ m. 256 ^ m) n) in
-    let a : new ++ drop k v ≡ v = ap (λ t. t ++ drop k v) i.1 ∙ take-append-drop k v in
-    (subst (λ w. CutAbove (upper l v) v w (length w, false)) (sym a) (above-whole v v (upper l v) (upper_full l v full) refl), exactly_full l v b h full)
+max_full : (l : ℕ) (v new : List ℕ) → Bytes (new ++ drop l v) → l < length v → Incremented (take l v) new None
+    → CutAbove (upper l v) v (new ++ drop l v) (length (new ++ drop l v), false) × Exactly l v false
+max_full l v new b h i =
+    let full : 256 ^ l ≤ raised l v = omega (arith, i.0, ap (λ m. 256 ^ m) (length-take-le l v (omega arith))) in
+    let a : new ++ drop l v ≡ v = ap (λ t. t ++ drop l v) i.1 ∙ take-append-drop l v in
+    (subst (λ w. CutAbove (upper l v) v w (length w, false)) (sym a) (above-whole v v (upper l v) (upper_full l v full) refl), exactly_full l v (subst Bytes a b) h full)
+
+-- what the cut answers of it
+pub max_answers : (l : ℕ) (v new : List ℕ) (o : Option (Unit {0})) (r : ℕ × Bool) → Bytes (new ++ drop l v) → l < length v → Incremented (take l v) new o
+    → MatchOption o (r ≡ (length (new ++ drop l v), false)) (λ _. r ≡ (l, true)) → CutAbove (upper l v) v (new ++ drop l v) r × Exactly l v r.1
+max_answers l v new (Some _) r b h i e = rw e (max_cut l v new h i)
+max_answers l v new None r b h i e = rw e (max_full l v new b h i)

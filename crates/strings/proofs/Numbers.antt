@@ -1,10 +1,8 @@
 -- Big-endian numbers: bytes are the digits of their number, and adding one raises the last byte below 255.
-use Rattle.std.proofs.Common.{◌≡◌, ℕ, zero, suc, ◌+◌, ◌-◌, ◌*◌, ◌/◌, ◌%◌, ◌^◌, ◌<◌, true, false, ◌⊎◌, List, [], ◌∷◌, ◌++◌, length, get_or, take, drop, set, replicate, Some, None, sym, refl, ap, ◌∙◌, subst, inl, inr, ⊎_elim, mod-lt, div-lt_iff_lt-mul, add-mul, pow-suc, arith}
+use Rattle.std.proofs.Common.{◌≡◌, ℕ, zero, suc, ◌+◌, ◌-◌, ◌*◌, ◌/◌, ◌%◌, ◌^◌, ◌<◌, ◌⊎◌, List, [], ◌∷◌, ◌++◌, length, get_or, take, replicate, Some, None, sym, refl, ap, ◌∙◌, subst, inl, inr, ⊎_elim, mod-lt, div-lt_iff_lt-mul, add-mul, pow-suc, arith}
 use native.Mathlib.Nat.{pow-succ'}
 use lib.ListN.{length-replicate}
 use lib.Arith.{digits_lt, digits_div, digits_mod}
-use borrow.Rule.Slice.PartMut.{put_mid, post_of}
-use Rattle.std.proofs.lemmas.List.{length-drop, drop_all, append-nil, append_assoc, take_more_set}
 use Rattle.std.proofs.lemmas.Bool.{cases_lt}
 use Rattle.strings.specs.Lexical.{Bytes}
 use Rattle.strings.specs.Numbers.{number, digits}
@@ -120,23 +118,14 @@ plus_one_digits t r p = (
   sym (digits_number r p.bytes) ∙ (λ i. digits (p.long i) (p.more i)),
 )
 
--- the byte at p is y now, and z stands behind it
-pub filled : (p : ℕ) (t z : List ℕ) (y : ℕ) → p < length t → y ≡ get_or t p 0 + 1 → z ≡ replicate (length t - (p + 1)) 0
-    → put_mid (p + 1) (length (set t p y) - (p + 1)) (set t p y) z ≡ take p t ++ (get_or t p 0 + 1) ∷ replicate (length t - (p + 1)) 0
-filled p t z y h e f =
-    let s = set t p y in
-    let k = length s - (p + 1) in
-    let none : post_of (p + 1) k s ≡ [] = drop_all k (drop (p + 1) s) (omega (arith, length-drop (p + 1) s)) in
-    ap (λ w. take (p + 1) s ++ (z ++ w)) none ∙ ap (λ w. take (p + 1) s ++ w) (append-nil z ∙ f)
-    ∙ ap (λ w. w ++ replicate (length t - (p + 1)) 0) (take_more_set t p y h)
-    ∙ append_assoc (take p t) (y ∷ []) (replicate (length t - (p + 1)) 0)
-    ∙ ap (λ w. take p t ++ w ∷ replicate (length t - (p + 1)) 0) e
+pub number_fits : (p : ℕ) (t : List ℕ) → Bytes t → LastBelow t (Some p) → number t + 1 < 256 ^ length t
+number_fits p t b h = (plus_one_digits t _ (raised_at p t b h.0 h.1 h.2)).0
 
-pub incremented_at : (p : ℕ) (t new : List ℕ) → Bytes t → LastBelow t (Some p) → new ≡ take p t ++ (get_or t p 0 + 1) ∷ replicate (length t - (p + 1)) 0
-    → Incremented t new true
-incremented_at p t new b h e =
-    let w = plus_one_digits t _ (raised_at p t b h.0 h.1 h.2) in
-    (w.0, e ∙ w.1)
+pub raised-digits : (p : ℕ) (t : List ℕ) → Bytes t → LastBelow t (Some p)
+    → take p t ++ (get_or t p 0 + 1) ∷ replicate (length t - (p + 1)) 0 ≡ digits (length t) (number t + 1)
+raised-digits p t b h = (plus_one_digits t _ (raised_at p t b h.0 h.1 h.2)).1
 
-pub incremented_none : (t : List ℕ) → LastBelow t None → Incremented t t false
+pub incremented_none : (t : List ℕ) → LastBelow t None → Incremented t t None
 incremented_none t h = (omega (arith, full_number t (full_from t h)), refl)
+
+pub ruleset incremented = (number_fits, raised-digits, incremented_none)

@@ -34,10 +34,10 @@ pub record Exactly (l : ℕ) (v : List ℕ) (cut : Bool) : Type 0 where
   pub needed : l < length v → NoneReaches l v → cut ≡ false
   pub short : length v ≤ l → cut ≡ false
 
--- what adding one to a big-endian number in place answers and leaves: false, and nothing changed, exactly if it takes a byte more
-abbrev pub Incremented : List ℕ → List ℕ → Bool → Type 0
-Incremented old new true = (number old + 1 < 256 ^ length old) × (new ≡ digits (length old) (number old + 1))
-Incremented old new false = (256 ^ length old ≤ number old + 1) × (new ≡ old)
+-- what adding one to a big-endian number in place answers and leaves: absent, and nothing changed, exactly if it takes a byte more
+abbrev pub Incremented : List ℕ → List ℕ → Option (Unit {0}) → Type 0
+Incremented old new (Some _) = (number old + 1 < 256 ^ length old) × (new ≡ digits (length old) (number old + 1))
+Incremented old new None = (256 ^ length old ≤ number old + 1) × (new ≡ old)
 
 -- the last byte below 255
 abbrev pub LastBelow : List ℕ → Option ℕ → Type 0

@@ -7,5 +7,5 @@ mod cut;
 mod increment;
 mod order;
 
-pub use cut::{is_longer, truncate_max_value, truncate_min_value};
+pub use cut::{truncate_max_value, truncate_min_value};
 pub use order::compare_greater;

@@ -1,13 +1,13 @@
 -- The cuts of strings: their laws over all strings, that bounds of text are text, and what the functions answer.
-use Rattle.std.proofs.Common.{◌≡◌, ℕ, ◌+◌, ◌-◌, ◌<◌, ◌≤◌, true, false, cond, ltb, List, ◌++◌, length, take, drop, Some, None, IsUtf8, Option, sym, refl, ap, ◌∙◌, subst, ⊎_elim, append_assoc, arith}
-use borrow.Rule.Slice.PartMut.{put_mid}
+use Rattle.std.proofs.Common.{◌≡◌, ℕ, ◌+◌, ◌<◌, ◌≤◌, Bool, true, false, cond, ltb, List, ◌++◌, length, take, drop, Some, None, IsUtf8, Option, sym, refl, ap, ◌∙◌, subst, ⊎_elim, append_assoc, arith}
 use lib.Utf8.{encode, encodes}
 use Rattle.std.specs.Char.{len_utf8}
+use Rattle.std.specs.Option.{MatchOption}
 use Rattle.std.specs.Str.{chars}
 use Rattle.std.proofs.lemmas.Str.{length-encode}
 use Rattle.std.proofs.lemmas.Bool.{cases_lt, cases_Bool, lt-ltb, le-ltb, cond-true, cond-false}
-use Rattle.std.proofs.lemmas.List.{length-append, length-take-le, take-append-drop, take_all, take_at, drop-drop, drop-append-le}
-use Rattle.kinds.specs.Cuts.{Bound, whole, Shortens, whole_shortens, CutBelow, CutAbove}
+use Rattle.std.proofs.lemmas.List.{length-append, length-take-le, take-append-drop, take_all, take_at, take-take}
+use Rattle.kinds.specs.Cuts.{Bound, whole, Shortens, whole_shortens, CutBelow}
 use Rattle.strings.specs.Lexical.{above}
 use Rattle.strings.specs.Cut as bytes
 use Rattle.strings.specs.Cut.{shortened, longer}
@@ -16,10 +16,14 @@ use Rattle.strings.proofs.Cuts as bytes_laws
 use Rattle.strings.proofs.Cuts.{never_above_itself, shortens, below_cut, below_whole, above-cut, above-whole}
 use Rattle.texts.specs.Unicode.{Text, is_text}
 use Rattle.texts.specs.Cut.{front, text_lower, raised, raised_bound, text_upper, lower, upper}
-use Rattle.texts.specs.Steps.{RaisedAt, RaisedIn}
+use Rattle.texts.specs.Steps.{FrontOf, RaisedAt}
 use Rattle.texts.proofs.Tables.{utf8_text, utf8_is_text}
 use Rattle.texts.proofs.Fronts.{front_few, front_text}
 use Rattle.texts.proofs.Raises.{Parts, raised_parts, parts_above, parts_long, parts_text}
+
+-- a whole text is text
+whole_text : (v : List ℕ) → Text v → Text (take (length v) v)
+whole_text v t = subst Text (sym (take_all (length v) v (omega arith))) t
 
 -- ---- which bound it is
 
@@ -116,76 +120,28 @@ module _ (l : ℕ) (v : List ℕ) where
       (λ rs p. shortens l v (encodes rs) (omega (arith, parts_long (take (front l v) v) rs (front_text l v) p, few h)) h))
       (bytes_laws.upper_shortens l v)
 
-  -- ---- what cutting below answers
+  -- ---- what the functions answer
 
-  pub below_front : (n : ℕ) → l < length v → IsUtf8 v → 0 < n → n ≡ front l v → CutBelow (lower l v) v (n, true) × (Text v → Text (take n v))
-  below_front n h u p e =
-      let b : lower l v ≡ shortened (take n v) = lower_text h (utf8_is_text v u) ∙ front_cut (omega arith) ∙ ap (λ k. shortened (take k v)) (sym e) in
-      (below_cut n v (lower l v) (omega (arith, front_few l v)) b, λ _. subst (λ k. Text (take k v)) (sym e) (utf8_text (take (front l v) v) (front_text l v)))
+  pub min_answers : (o : Option ℕ) (r : ℕ × Bool) → l < length v → IsUtf8 v → FrontOf l v o → MatchOption o (r ≡ (length v, false)) (λ n. r ≡ (n, true))
+      → CutBelow (lower l v) v r × (Text v → Text (take r.0 v))
+  min_answers (Some n) r h u f e =
+      let b : lower l v ≡ shortened (take n v) = lower_text h (utf8_is_text v u) ∙ front_cut (omega (arith, f.0, f.1)) ∙ ap (λ k. shortened (take k v)) (sym f.1) in
+      rw e (
+        below_cut n v (lower l v) (omega (arith, f.1, front_few l v)) b,
+        λ _. subst (λ k. Text (take k v)) (sym f.1) (utf8_text (take (front l v) v) (front_text l v)),
+      )
+  min_answers None r h u f e =
+      rw e (below_whole v (lower l v) (lower_text h (utf8_is_text v u) ∙ front-whole (omega (arith, f))), whole_text v)
 
-  pub below_none : l < length v → IsUtf8 v → front l v ≡ 0 → CutBelow (lower l v) v (length v, false)
-  below_none h u e = below_whole v (lower l v) (lower_text h (utf8_is_text v u) ∙ front-whole (omega arith))
-
-  -- ---- what cutting above answers
-
-  above_by : (after : List ℕ) (n : ℕ) → l < length v → IsUtf8 v → (o : Option (List ℕ)) → raised (chars (take (front l v) v)) ≡ o
-      → RaisedIn v after o (Some n) → CutAbove (upper l v) v after (n, true) × Text (take n after)
-  above_by after n h u None e r = absurd r
-  above_by after n h u (Some rs) e r =
-      let b : upper l v ≡ shortened (encodes rs) = upper_text h (utf8_is_text v u) ∙ ap (raised_bound v) e in
-      let p = raised_parts (chars (take (front l v) v)) rs e in
-      let t : take n after ≡ encodes rs = ap (take n) r.2 ∙ take_at (encodes rs) (drop n v) n (sym r.0) in
-      (above-cut n v after (encodes rs) (upper l v) b (sym r.0) r.2, subst Text (sym t) (utf8_text (encodes rs) (parts_text (take (front l v) v) rs (front_text l v) p)))
-
-  pub above-raised : (after : List ℕ) (n : ℕ) → l < length v → IsUtf8 v
-      → RaisedIn v after (raised (chars (take (front l v) v))) (Some n) → CutAbove (upper l v) v after (n, true) × Text (take n after)
-  above-raised after n h u r = above_by after n h u (raised (chars (take (front l v) v))) refl r
-
-  none_by : (after : List ℕ) → l < length v → IsUtf8 v → (o : Option (List ℕ)) → raised (chars (take (front l v) v)) ≡ o
-      → RaisedIn v after o None → CutAbove (upper l v) v after (length v, false) × (after ≡ v)
-  none_by after h u (Some rs) e r = absurd r
-  none_by after h u None e r = (above-whole v after (upper l v) (upper_text h (utf8_is_text v u) ∙ ap (raised_bound v) e) r, r)
-
-  pub above_none : (after : List ℕ) → l < length v → IsUtf8 v
-      → RaisedIn v after (raised (chars (take (front l v) v))) None → CutAbove (upper l v) v after (length after, false) × (Text v → Text (take (length after) after))
-  above_none after h u r =
-      let w = none_by after h u (raised (chars (take (front l v) v))) refl r in
-      (subst (λ n. CutAbove (upper l v) v after (n, false)) (ap length (sym w.1)) w.0, λ t. subst Text (sym w.1 ∙ sym (take_all (length after) after (omega arith))) t)
-
--- a whole text is text
-pub whole_text : (v : List ℕ) → Text v → Text (take (length v) v)
-whole_text v t = subst Text (sym (take_all (length v) v (omega arith))) t
-
--- ---- raising in place
-
-pub raised_in : (s code put : List ℕ) (p d : ℕ) → RaisedAt s (Some (p, d)) → code ≡ encode d → put ≡ code
-    → RaisedIn s (put_mid p (p + length code - p) s put) (raised (chars s)) (Some (p + length code))
-raised_in s code put p d r e f =
-    let n : length code ≡ len_utf8 d = ap length e ∙ length-encode d in
-    let k : length (take p s) ≡ p = length-take-le p s (omega (arith, r.3)) in
-    let w : encodes r.0 ≡ take p s ++ code = r.2 ∙ ap (λ z. take p s ++ z) (sym e) in
-    let rest : drop (p + length code - p) (drop p s) ≡ drop (p + length code) s = drop-drop (p + length code - p) p s ∙ ap (λ m. drop m s) (omega arith) in
-    let new : put_mid p (p + length code - p) s put ≡ encodes r.0 ++ drop (p + length code) s =
-    (λ i. take p s ++ (f i ++ rest i)) ∙ sym (append_assoc (take p s) code (drop (p + length code) s)) ∙ ap (λ z. z ++ drop (p + length code) s) (sym w) in
-    subst (λ o. RaisedIn s (put_mid p (p + length code - p) s put) o (Some (p + length code))) (sym r.1)
-    (omega (arith, ap length w, length-append (take p s) code), omega (arith, r.3), new)
-
-pub raised_none : (s : List ℕ) → RaisedAt s None → RaisedIn s s (raised (chars s)) None
-raised_none s r = subst (λ o. RaisedIn s s o None) (sym r) refl
-
-front_by_cases : (k : ℕ) (v new : List ℕ) (o : Option (List ℕ)) (r : Option ℕ) → k ≤ length v → RaisedIn (take k v) new o r → RaisedIn v (new ++ drop k v) o r
-front_by_cases k v new (Some rs) (Some n) h i =
-    let t : drop n (take k v) ++ drop k v ≡ drop n v = sym (drop-append-le n (take k v) (drop k v) i.1) ∙ ap (drop n) (take-append-drop k v) in (
-      i.0,
-      omega (arith, i.1, length-take-le k v h),
-      ap (λ z. z ++ drop k v) i.2 ∙ append_assoc (encodes rs) (drop n (take k v)) (drop k v) ∙ ap (λ z. encodes rs ++ z) t,
-    )
-front_by_cases k v new None None h i = ap (λ z. z ++ drop k v) i ∙ take-append-drop k v
-front_by_cases k v new (Some rs) None h i = absurd i
-front_by_cases k v new None (Some n) h i = absurd i
-
-pub raised-front : (k l : ℕ) (v new : List ℕ) (r : Option ℕ) → k ≡ front l v → l < length v → RaisedIn (take k v) new (raised (chars (take k v))) r
-    → RaisedIn v (new ++ drop k v) (raised (chars (take (front l v) v))) r
-raised-front k l v new r e h i =
-    subst (λ m. RaisedIn v (new ++ drop k v) (raised (chars (take m v))) r) e
-    (front_by_cases k v new (raised (chars (take k v))) r (omega (arith, front_few l v)) i)
+  -- the raised front is text
+  pub raised_text : (at d n : ℕ) (after : List ℕ) → l < length v → RaisedAt (take (front l v) v) (Some (at, d)) → n ≡ at + len_utf8 d
+      → after ≡ take at v ++ (encode d ++ drop (at + len_utf8 d) v) → Text (take n after)
+  raised_text at d n after h r e a =
+      let w = front_text l v in
+      let f : length (take (front l v) v) ≡ front l v = length-take-le (front l v) v (omega (arith, front_few l v)) in
+      let q : encodes r.0 ≡ take at v ++ encode d = r.2 ∙ ap (λ x. x ++ encode d) (take-take at (front l v) v (omega (arith, r.3))) in
+      let k : length (encodes r.0) ≡ n = omega (arith, ap length q, length-append (take at v) (encode d), length-encode d, length-take-le at v (omega (arith, r.3, front_few l v))) in
+      let t : take n after ≡ encodes r.0 =
+      ap (take n) (a ∙ sym (append_assoc (take at v) (encode d) (drop (at + len_utf8 d) v)) ∙ ap (λ x. x ++ drop (at + len_utf8 d) v) (sym q))
+      ∙ take_at (encodes r.0) (drop (at + len_utf8 d) v) n k in
+      subst Text (sym t) (utf8_text (encodes r.0) (parts_text (take (front l v) v) r.0 w (raised_parts (chars (take (front l v) v)) r.0 r.1)))

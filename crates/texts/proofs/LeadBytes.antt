@@ -1,17 +1,20 @@
 -- Lead bytes: what the table says of each, and that the tests of a walk find exactly the characters.
-use Rattle.std.proofs.Common.{◌≡◌, ℕ, zero, suc, ◌+◌, ◌-◌, ◌*◌, ◌<◌, ◌≤◌, Bool, true, false, ◌&&◌, eqb, leb, ◌⊎◌, List, [], ◌∷◌, length, get_or, take, drop, IsUtf8, sym, refl, ap, ◌∙◌, subst, inl, inr, ⊎_elim, arith}
+use Rattle.std.proofs.Common.{◌≡◌, ℕ, zero, suc, ◌+◌, ◌-◌, ◌*◌, ◌<◌, ◌≤◌, Bool, true, false, ◌&&◌, eqb, leb, ◌⊎◌, List, [], ◌∷◌, length, get_or, take, drop, Some, None, IsUtf8, sym, refl, ap, ◌∙◌, subst, inl, inr, ⊎_elim, arith}
+use Rattle.std.specs.Bool.{then_some}
+use Rattle.std.specs.List.{list_all}
 use Rattle.std.specs.Str.{StartsWithNoChar, IsCharBoundary}
 use Rattle.std.proofs.str.Laws.{Follows}
-use Rattle.std.proofs.str.Valid.{of_one, of_two, of_three, of_four}
-use Rattle.std.proofs.str.Faults.{Ranged, no_char}
-use Rattle.std.proofs.lemmas.Bool.{cases_order, cases_lt, and_parts, and_from, leb-true, le-leb, eqb-true, both_ways}
+use Rattle.std.proofs.str.Valid.{of_one, of_two, of_three, of_four, whole}
+use Rattle.std.proofs.str.Faults.{Ranged, no_char, valid_to, not_text}
+use Rattle.std.proofs.lemmas.Bool.{true≢false, ne_eqb, cases_order, cases_lt, and_parts, and_from, leb-true, le-leb, eqb-true, both_ways}
 use Rattle.std.proofs.lemmas.Bool.Decides.{nat_tests}
-use Rattle.std.proofs.lemmas.Str.{IsUtf8-nil, IsUtf8-drop, IsCharBoundary-from_take}
-use Rattle.std.proofs.lemmas.List.{get_or-drop, length-drop}
-use Rattle.texts.specs.Leads.{Leads, lead_length_of, lengths, least, most}
+use Rattle.std.proofs.lemmas.Str.{IsUtf8-drop, IsCharBoundary-from_take, length-encode, len_utf8_bounds}
+use Rattle.std.proofs.lemmas.List.{get_or-drop, length-drop, length-append}
+use lib.Utf8.{encode}
+use Rattle.texts.specs.Leads.{Leads, lead_length_of, lengths, least, most, second, follower, fits}
 use Rattle.texts.specs.Unicode.{Char, one, two, three_e0, three_low, three_ed, three_high, four_f0, four, four_f4, Text, none, more}
-use Rattle.texts.specs.Steps.{Step}
-use Rattle.texts.proofs.Tables.{utf8_text}
+use Rattle.texts.specs.Steps.{Step, Valid}
+use Rattle.texts.proofs.Tables.{utf8_text, valid_yes, valid_no}
 
 -- which bytes begin characters of which length
 pub data Lead (x : ℕ) : Type 0 where
@@ -128,31 +131,121 @@ text_by bs at n h e t (late a q) = absurd (omega (arith, t.there))
 pub text_from_tests : (bs : List ℕ) (at n : ℕ) → at < length bs → n ≡ lead_length_of (get_or bs at 0) → TestsAt n bs at → IsUtf8 (take n (drop at bs))
 text_from_tests bs at n h e t = text_by bs at n h e t (lead (get_or bs at 0))
 
-pub refused : (bs : List ℕ) (at n : ℕ) → at < length bs → n ≡ lead_length_of (get_or bs at 0) → (TestsAt n bs at → ⊥) → Step bs at 0
-refused bs at n h e f = record { few = omega arith; text = IsUtf8-nil; none = λ _. none_from_tests bs at n h e f }
-
-pub taken : (bs : List ℕ) (at n : ℕ) → at < length bs → n ≡ lead_length_of (get_or bs at 0) → TestsAt n bs at → Step bs at n
-taken bs at n h e t = record { few = omega (arith, t.room); text = text_from_tests bs at n h e t; none = λ z. absurd (omega (arith, t.there)) }
-
 -- ---- the tests of the functions
 
-pub fits_yes : (x y : ℕ) → (leb (least x) y && leb y (most x)) ≡ true → (least x ≤ y) × (y ≤ most x)
+fits_yes : (x y : ℕ) → second x y ≡ true → (least x ≤ y) × (y ≤ most x)
 fits_yes x y e =
     let p = and_parts (leb (least x) y) (leb y (most x)) e in
     (leb-true (least x) y p.0, leb-true y (most x) p.1)
 
-pub fits_no : (x y : ℕ) → (leb (least x) y && leb y (most x)) ≡ false → (least x ≤ y) × (y ≤ most x) → ⊥
-fits_no x y e h = both_ways _ e (and_from (leb (least x) y) (leb y (most x)) (le-leb (least x) y h.0) (le-leb y (most x) h.1))
+fits_from : (x y : ℕ) → (least x ≤ y) × (y ≤ most x) → second x y ≡ true
+fits_from x y h = and_from (leb (least x) y) (leb y (most x)) (le-leb (least x) y h.0) (le-leb y (most x) h.1)
 
-pub follows_yes : (y : ℕ) → (leb 128 y && leb y 191) ≡ true → Follows y
+follows_yes : (y : ℕ) → follower y ≡ true → Follows y
 follows_yes y e =
     let p = and_parts (leb 128 y) (leb y 191) e in
     let a = leb-true 128 y p.0 in
     let b = leb-true y 191 p.1 in
     (a, omega arith)
 
-pub follows_no : (y : ℕ) → (leb 128 y && leb y 191) ≡ false → Follows y → ⊥
-follows_no y e h = both_ways _ e (and_from (leb 128 y) (leb y 191) (le-leb 128 y h.0) (le-leb y 191 (omega (arith, h.1))))
+follows_from : (y : ℕ) → Follows y → follower y ≡ true
+follows_from y h = and_from (leb 128 y) (leb y 191) (le-leb 128 y h.0) (le-leb y 191 (omega (arith, h.1)))
+
+-- by the number of bytes after the lead byte
+tests_from_fits : (m n N x : ℕ) (ys : List ℕ) → m < 4 → n ≡ m + 1 → N ≡ length ys + 1 → m ≤ length ys → fits x (take m ys) ≡ true
+    → Tests n N x (get_or ys 0 0) (get_or ys 1 0) (get_or ys 2 0)
+tests_from_fits zero n N x ys b e f h t = record {
+  there = omega arith;
+  room = omega arith;
+  second = λ q. absurd (omega arith);
+  third = λ q. absurd (omega arith);
+  fourth = λ q. absurd (omega arith);
+}
+tests_from_fits (suc m) n N x [] b e f h t = absurd (omega arith)
+tests_from_fits (suc zero) n N x (y ∷ ys) b e f h t = let p = and_parts (second x y) true t in record {
+  there = omega arith;
+  room = omega arith;
+  second = λ q. fits_yes x y p.0;
+  third = λ q. absurd (omega arith);
+  fourth = λ q. absurd (omega arith);
+}
+tests_from_fits (suc (suc m)) n N x (y ∷ []) b e f h t = absurd (omega arith)
+tests_from_fits (suc (suc zero)) n N x (y ∷ z ∷ ys) b e f h t =
+    let p = and_parts (second x y) (follower z && true) t in
+    let r = and_parts (follower z) true p.1 in
+    record {
+      there = omega arith;
+      room = omega arith;
+      second = λ q. fits_yes x y p.0;
+      third = λ q. follows_yes z r.0;
+      fourth = λ q. absurd (omega arith);
+    }
+tests_from_fits (suc (suc (suc m))) n N x (y ∷ z ∷ []) b e f h t = absurd (omega arith)
+tests_from_fits (suc (suc (suc zero))) n N x (y ∷ z ∷ w ∷ ys) b e f h t =
+    let p = and_parts (second x y) (follower z && (follower w && true)) t in
+    let r = and_parts (follower z) (follower w && true) p.1 in
+    let s = and_parts (follower w) true r.1 in
+    record {
+      there = omega arith;
+      room = omega arith;
+      second = λ q. fits_yes x y p.0;
+      third = λ q. follows_yes z r.0;
+      fourth = λ q. follows_yes w s.0;
+    }
+tests_from_fits (suc (suc (suc (suc m)))) n N x ys b e f h t = absurd (omega arith)
+
+fits_from_tests : (m n N x : ℕ) (ys : List ℕ) → m < 4 → n ≡ m + 1 → m ≤ length ys
+    → Tests n N x (get_or ys 0 0) (get_or ys 1 0) (get_or ys 2 0) → fits x (take m ys) ≡ true
+fits_from_tests zero n N x ys b e h t = refl
+fits_from_tests (suc m) n N x [] b e h t = absurd (omega arith)
+fits_from_tests (suc zero) n N x (y ∷ ys) b e h t = and_from (second x y) true (fits_from x y (t.second (omega arith))) refl
+fits_from_tests (suc (suc m)) n N x (y ∷ []) b e h t = absurd (omega arith)
+fits_from_tests (suc (suc zero)) n N x (y ∷ z ∷ ys) b e h t =
+    and_from (second x y) (follower z && true) (fits_from x y (t.second (omega arith)))
+    (and_from (follower z) true (follows_from z (t.third (omega arith))) refl)
+fits_from_tests (suc (suc (suc m))) n N x (y ∷ z ∷ []) b e h t = absurd (omega arith)
+fits_from_tests (suc (suc (suc zero))) n N x (y ∷ z ∷ w ∷ ys) b e h t =
+    and_from (second x y) (follower z && (follower w && true)) (fits_from x y (t.second (omega arith)))
+    (and_from (follower z) (follower w && true) (follows_from z (t.third (omega arith)))
+    (and_from (follower w) true (follows_from w (t.fourth (omega arith))) refl))
+fits_from_tests (suc (suc (suc (suc m)))) n N x ys b e h t = absurd (omega arith)
+
+few : (x : ℕ) → Lead x → lead_length_of x ≤ 4
+few x (by_one a q) = omega arith
+few x (early a b q) = omega arith
+few x (by_two a b q) = omega arith
+few x (by_three a b q) = omega arith
+few x (by_four a b q) = omega arith
+few x (late a q) = omega arith
+
+-- the bytes are x and ys, and n is what the table says of x
+module _ (bs ys : List ℕ) (x n : ℕ) (b : bs ≡ x ∷ ys) (e : n ≡ lead_length_of x) where
+  -- where a test fails, no character begins
+  refused : (TestsAt n (x ∷ ys) 0 → ⊥) → Step bs None
+  refused f = subst (λ t. Step t None) (sym b) (none_from_tests (x ∷ ys) 0 n (omega arith) e f)
+
+  pub refused_lead : (1 ≤ n → ⊥) → Step bs None
+  refused_lead h = refused (λ t. h (omega (arith, t.there)))
+
+  pub refused_short : length ys < n - 1 → Step bs None
+  refused_short h = refused (λ t. omega (arith, t.room))
+
+  -- so what the test of the bytes after the lead byte decides
+  pub step_by : (r : Bool) → 1 ≤ n → n - 1 ≤ length ys → r ≡ fits x (take (n - 1) ys) → Step bs (then_some r n)
+  step_by true p h f =
+      let k = few x (lead x) in
+      let t : IsUtf8 (take n (x ∷ ys)) = text_from_tests (x ∷ ys) 0 n (omega arith) e (tests_from_fits (n - 1) n (length (x ∷ ys) - 0) x ys (omega arith) (omega arith) (omega arith) h (sym f)) in
+      subst (λ z. Step z (Some n)) (sym b) (p, omega arith, t)
+  step_by false p h f =
+      let k = few x (lead x) in
+      refused (λ t. both_ways _ (sym f) (fits_from_tests (n - 1) n (length (x ∷ ys) - 0) x ys (omega arith) (omega arith) h t))
+
+pub empty : (bs : List ℕ) → length bs ≡ 0 → Step bs None
+empty [] h = λ c rest s e. omega (arith, ap length e, length-append (encode c) rest, length-encode c, len_utf8_bounds c)
+empty (x ∷ bs) h = absurd (omega arith)
+
+pub fits_more : (x y : ℕ) (bs ys : List ℕ) (r : Bool) → bs ≡ y ∷ ys → second x y ≡ true → r ≡ list_all follower ys → r ≡ fits x bs
+fits_more x y bs ys r b e f = f ∙ sym (ap (λ t. t && list_all follower ys) e) ∙ sym (ap (fits x) b)
 
 -- ---- the rule of the table, by the rows of the standard's
 
@@ -256,3 +349,13 @@ entry_value b h =
 
 pub entry_leads : (b r : ℕ) → b < 256 → r ≡ get_or lengths b 0 → (r ≡ lead_length_of b) × Leads b r
 entry_leads b r h e = let v = e ∙ entry_value b h in (v, subst (Leads b) (sym v) (leads b))
+
+-- ---- the end of the walk
+
+pub valid_rest : (bs rest : List ℕ) (k : ℕ) (r : Bool) → k ≤ length bs → rest ≡ drop k bs → IsUtf8 (take k bs) → Step rest None
+    → r ≡ eqb (length rest) 0 → Valid bs r
+valid_rest bs [] k true h e u s f = valid_yes bs (whole bs k (omega (arith, ap length e, length-drop k bs)) u)
+valid_rest bs [] k false h e u s f = absurd (true≢false (sym f))
+valid_rest bs (x ∷ rest) k true h e u s f = absurd (true≢false (f ∙ ne_eqb (suc (length rest)) 0 (λ q. omega arith)))
+valid_rest bs (x ∷ rest) k false h e u s f =
+    valid_no bs (not_text bs k (valid_to bs k (omega (arith, ap length e, length-drop k bs)) u (subst StartsWithNoChar e s)))

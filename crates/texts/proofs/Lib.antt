@@ -4,3 +4,4 @@ pub mod LeadBytes
 pub mod Fronts
 pub mod Raises
 pub mod Cuts
+pub mod Boundaries

@@ -1,5 +1,6 @@
 -- What a lead byte says of its character, from the Unicode standard's table of well-formed UTF-8 byte sequences.
-use Rattle.std.specs.Prelude.{◌≡◌, ℕ, ◌<◌, cond, List, ◌∷◌, ◌++◌, length, replicate, ◌==◌, nat_lt}
+use Rattle.std.specs.Prelude.{◌≡◌, ℕ, ◌<◌, Bool, true, ◌&&◌, cond, List, [], ◌∷◌, ◌++◌, length, replicate, ◌==◌, nat_lt, nat_le}
+use Rattle.std.specs.List.{list_all}
 use Rattle.texts.specs.Unicode.{Char}
 
 -- the length of the character that a byte begins, or 0
@@ -22,3 +23,15 @@ least x = cond (x == 0xE0) 0xA0 (cond (x == 0xF0) 0x90 0x80)
 
 abbrev pub most : ℕ → ℕ
 most x = cond (x == 0xED) 0x9F (cond (x == 0xF4) 0x8F 0xBF)
+
+-- a byte may come second after a lead byte, and third or fourth
+abbrev pub second : ℕ → ℕ → Bool
+second x y = nat_le (least x) y && nat_le y (most x)
+
+abbrev pub follower : ℕ → Bool
+follower y = nat_le 0x80 y && nat_le y 0xBF
+
+-- these bytes may come after a lead byte
+abbrev pub fits : ℕ → List ℕ → Bool
+fits x [] = true
+fits x (y ∷ ys) = second x y && list_all follower ys

@@ -1,30 +1,25 @@
-ghost use Rattle.std.specs.Prelude.{◌≡◌, ◌<◌, length as long, take, IsUtf8};
+ghost use Rattle.std.specs.Prelude.{◌<◌, length as long, take};
 ghost use Rattle.kinds.specs.Cuts.{CutBelow, CutAbove};
-ghost use Rattle.std.specs.Str.{chars};
 ghost use Rattle.texts.specs.Unicode.{Text};
-ghost use Rattle.texts.specs.Cut.{front, raised, lower, upper};
-ghost use Rattle.texts.specs.Steps.{FrontOf, RaisedIn};
+ghost use Rattle.texts.specs.Cut.{front, lower, upper};
+ghost use Rattle.texts.specs.Steps.{FrontOf, LastLead, RaisedAt};
 
-use crate::increment::increment_utf8;
+use crate::increment::{increment_utf8, last_raised};
 use crate::leads::is_lead;
-use crate::valid::is_utf8;
-use strings::is_longer;
+use crate::valid::as_text;
 
 // The lower bound of a string at the length: how long a front of it, and whether that cuts it.
 pub fn truncate_min_value(value: &[u8], length: usize) -> (usize, bool)
     ensures bound { CutBelow (lower length value.now) value.now result }
     ensures text { Text value.now → Text (take result.0 value.now) }
 {
-    if !is_longer(value, length) {
+    if value.len() <= length {
         return (value.len(), false);
     }
-    if !is_utf8(value) {
+    let Some(text) = as_text(value) else {
         return strings::truncate_min_value(value, length);
-    }
-    match truncate_utf8(value, length) {
-        Some(n) => (n, true),
-        None => (value.len(), false),
-    }
+    };
+    last_boundary(text, length).map_or((value.len(), false), |split| (split, true))
 }
 
 // Puts the upper bound of a string at the length in its place: its length, and whether the string was cut.
@@ -32,52 +27,39 @@ pub fn truncate_max_value(value: &mut [u8], length: usize) -> (usize, bool)
     ensures bound { CutAbove (upper length value.old) value.old value.new result }
     ensures text { Text value.old → Text (take result.0 value.new) }
 {
-    if !is_longer(value, length) {
+    if value.len() <= length {
         return (value.len(), false);
     }
-    if !is_utf8(value) {
+    let Some(text) = as_text(value) else {
         return strings::truncate_max_value(value, length);
-    }
-    match truncate_and_increment_utf8(value, length) {
-        Some(n) => (n, true),
-        None => (value.len(), false),
-    }
+    };
+    let Some((at, next)) = truncate_and_increment_utf8(text, length) else {
+        return (value.len(), false);
+    };
+    (increment_utf8(value, at, next), true)
 }
 
-// How long the longest front of 1 to `length` bytes is that ends on a character boundary.
-fn truncate_utf8(value: &[u8], length: usize) -> Option<usize>
-    requires text { IsUtf8 value.now }
-    requires longer { length < long value.now }
-    ensures { FrontOf length value.now result }
+// In the longest front that ends on a character boundary, the place of the last character that can be raised, and its
+// successor.
+fn truncate_and_increment_utf8(text: &str, length: usize) -> Option<(usize, char)>
+    requires { length < long text.now }
+    ensures { RaisedAt (take (front length text.now) text.now) result }
 {
-    let split = last_boundary(value, length);
-    if split == 0 {
-        return None;
-    }
-    Some(split)
+    let split = last_boundary(text, length)?;
+    last_raised(&text[..split])
 }
 
-fn truncate_and_increment_utf8(value: &mut [u8], length: usize) -> Option<usize>
-    requires text { IsUtf8 value.old }
-    requires longer { length < long value.old }
-    ensures { RaisedIn value.old value.new (raised (chars (take (front length value.old) value.old))) result }
+// The last character boundary from 1 up to the length.
+fn last_boundary(text: &str, length: usize) -> Option<usize>
+    requires { length < long text.now }
+    ensures { FrontOf length text.now result }
 {
-    let split = last_boundary(value, length);
-    increment_utf8(&mut value[0..split])
+    last_lead(&text.as_bytes()[1..=length]).map(|at| at + 1)
 }
 
-// The last character boundary up to the length.
-fn last_boundary(value: &[u8], length: usize) -> usize
-    requires text { IsUtf8 value.now }
-    requires longer { length < long value.now }
-    ensures { result ≡ front length value.now }
+// The place of the last byte with which a character begins.
+fn last_lead(bytes: &[u8]) -> Option<usize>
+    ensures { LastLead bytes.now result }
 {
-    let mut split = length;
-    while split > 0 {
-        if is_lead(value[split]) {
-            return split;
-        }
-        split -= 1;
-    }
-    0
+    bytes.iter().rposition(|byte| is_lead(*byte))
 }

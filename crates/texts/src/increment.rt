@@ -1,39 +1,15 @@
-ghost use Rattle.std.specs.Prelude.{◌≡◌, IsUtf8};
-ghost use Rattle.std.specs.Str.{chars as decodes};
-ghost use Rattle.texts.specs.Cut.{raised};
-ghost use Rattle.texts.specs.Steps.{Succeeds, RaisedAt, RaisedIn};
-
-// Raises a text in place: its last character that has a successor of equal length, without what follows.
-// Answers how long the text then is; absent, and nothing changed, where it has no such character.
-pub(crate) fn increment_utf8(bytes: &mut [u8]) -> Option<usize>
-    requires { IsUtf8 bytes.old }
-    ensures { RaisedIn bytes.old bytes.new (raised (decodes bytes.old)) result }
-{
-    let Some((at, next)) = last_raised(as_text(bytes)) else {
-        return None;
-    };
-    let mut room = [0u8; 4];
-    let code = next.encode_utf8(&mut room).as_bytes();
-    let end = at + code.len();
-    bytes[at..end].copy_from_slice(code);
-    Some(end)
-}
-
-fn as_text(bytes: &[u8]) -> &str
-    requires { IsUtf8 bytes.now }
-    ensures { result.now ≡ bytes.now }
-{
-    unsafe { std::str::from_utf8_unchecked(bytes) }
-}
+ghost use Rattle.std.specs.Prelude.{◌≡◌, ◌+◌, ◌≤◌, ◌++◌, length, take, drop, encode_utf8};
+ghost use Rattle.std.specs.Char.{len_utf8};
+ghost use Rattle.texts.specs.Steps.{Succeeds, RaisedAt};
 
 // The place of the last character that can be raised, and its successor.
-fn last_raised(text: &str) -> Option<(usize, char)>
+pub(crate) fn last_raised(text: &str) -> Option<(usize, char)>
     ensures { RaisedAt text.now result }
 {
-    let mut chars = text.chars();
-    while let Some(c) = chars.next_back() {
+    // no `find_map`: the proof goes by the text that is left at each character, which its clauses do not show
+    for (at, c) in text.char_indices().rev() {
         if let Some(next) = successor(c) {
-            return Some((chars.as_str().len(), next));
+            return Some((at, next));
         }
     }
     None
@@ -43,11 +19,20 @@ fn last_raised(text: &str) -> Option<(usize, char)>
 fn successor(c: char) -> Option<char>
     ensures { Succeeds c result }
 {
-    let Some(next) = char::from_u32(c as u32 + 1) else {
-        return None;
-    };
-    if next.len_utf8() != c.len_utf8() {
-        return None;
-    }
-    Some(next)
+    let next = char::from_u32(u32::from(c) + 1)?;
+    (next.len_utf8() == c.len_utf8()).then_some(next)
+}
+
+// Raises a text in place: puts a character's successor at its place, and answers how long the text then is.
+pub(crate) fn increment_utf8(bytes: &mut [u8], at: usize, next: char) -> usize
+    requires { at + len_utf8 next ≤ length bytes.old }
+    ensures end { result ≡ at + len_utf8 next }
+    ensures put { bytes.new ≡ take at bytes.old ++ (encode_utf8 next ++ drop (at + len_utf8 next) bytes.old) }
+{
+    // by way of four bytes: the library does not say what `encode_utf8` leaves in a longer slice
+    let mut room = [0u8; 4];
+    let code = next.encode_utf8(&mut room).as_bytes();
+    let end = at + code.len();
+    bytes[at..end].copy_from_slice(code);
+    end
 }

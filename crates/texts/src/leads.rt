@@ -1,9 +1,9 @@
 ghost use Rattle.std.specs.Prelude.{◌≡◌, nat_lt, slice_index};
-ghost use Rattle.texts.specs.Leads.{Leads, lead_length_of, lengths, least, most};
+ghost use Rattle.texts.specs.Leads.{Leads, lead_length_of, lengths, second, follower};
 
 use crate::lengths::LENGTHS;
 
-// The length of the character that a lead byte begins, or 0.
+// The length of the character that a lead byte begins, or 0 as the table has it, which serves validity and cuts alike.
 pub fn lead_length(byte: u8) -> u8
     ensures value { result ≡ lead_length_of byte }
     ensures rule { Leads byte result }
@@ -11,10 +11,11 @@ pub fn lead_length(byte: u8) -> u8
     entry(byte)
 }
 
+// The table's entry for the byte. In one function with the rule, a wrong entry would only make the proof's answer unfit.
 fn entry(byte: u8) -> u8
     ensures { result ≡ slice_index lengths byte }
 {
-    LENGTHS[byte as usize]
+    LENGTHS[usize::from(byte)]
 }
 
 // Whether a character begins with the byte.
@@ -24,23 +25,22 @@ pub(crate) fn is_lead(byte: u8) -> bool
     0 < lead_length(byte)
 }
 
-// The least and the greatest second byte after a lead byte.
-pub(crate) fn least_second(lead: u8) -> u8
-    ensures { result ≡ least lead }
+// Whether the byte may come second after the lead byte.
+pub(crate) fn second_fits(lead: u8, byte: u8) -> bool
+    ensures { result ≡ second lead byte }
 {
     match lead {
-        0xE0 => 0xA0,
-        0xF0 => 0x90,
-        _ => 0x80,
+        0xE0 => matches!(byte, 0xA0..=0xBF),
+        0xED => matches!(byte, 0x80..=0x9F),
+        0xF0 => matches!(byte, 0x90..=0xBF),
+        0xF4 => matches!(byte, 0x80..=0x8F),
+        _ => follows(byte),
     }
 }
 
-pub(crate) fn most_second(lead: u8) -> u8
-    ensures { result ≡ most lead }
+// Whether the byte may come third or fourth.
+pub(crate) fn follows(byte: u8) -> bool
+    ensures { result ≡ follower byte }
 {
-    match lead {
-        0xED => 0x9F,
-        0xF4 => 0x8F,
-        _ => 0xBF,
-    }
+    matches!(byte, 0x80..=0xBF)
 }

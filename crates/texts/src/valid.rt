@@ -1,59 +1,57 @@
-ghost use Rattle.std.specs.Prelude.{◌≡◌, ◌<◌, true, false, ◌&&◌, length, nat_le};
-ghost use Rattle.texts.specs.Leads.{least, most};
-ghost use Rattle.texts.specs.Steps.{Step, Valid};
+ghost use Rattle.std.specs.Prelude.{◌≡◌};
+ghost use Rattle.std.specs.List.{list_all};
+ghost use Rattle.std.specs.Option.{option_copied};
+ghost use Rattle.texts.specs.Leads.{fits, follower};
+ghost use Rattle.texts.specs.Steps.{Step, Valid, AsText};
 
-use crate::leads::{lead_length, least_second, most_second};
+use crate::leads::{follows, lead_length, second_fits};
 
 // Whether the bytes are text.
 pub fn is_utf8(bytes: &[u8]) -> bool
     ensures { Valid bytes.now result }
 {
-    let mut at = 0;
-    while at < bytes.len() {
-        let n = char_length(bytes, at);
-        if n == 0 {
-            return false;
-        }
-        at += n;
+    let mut rest = bytes;
+    while let Some(length) = char_length(rest) {
+        rest = &rest[length..];
     }
-    true
+    rest.is_empty()
 }
 
-// How long the character is that begins at the place, or 0 where none does.
-fn char_length(bytes: &[u8], at: usize) -> usize
-    requires { at < length bytes.now }
-    ensures { Step bytes.now at result }
+// The bytes as text, absent where they are none.
+pub(crate) fn as_text(bytes: &[u8]) -> Option<&str>
+    ensures { AsText bytes.now (option_copied result) }
 {
-    let lead = bytes[at];
-    let n = lead_length(lead) as usize;
-    if n == 0 {
-        return 0;
+    // no `then`: its closure would need a `requires` of its own for the unchecked call, and be no plainer
+    if is_utf8(bytes) {
+        Some(unsafe { std::str::from_utf8_unchecked(bytes) })
+    } else {
+        None
     }
-    if bytes.len() - at < n {
-        return 0;
-    }
-    if n > 1 && !second_fits(lead, bytes[at + 1]) {
-        return 0;
-    }
-    if n > 2 && !follows(bytes[at + 2]) {
-        return 0;
-    }
-    if n > 3 && !follows(bytes[at + 3]) {
-        return 0;
-    }
-    n
 }
 
-// Whether the byte may come second after the lead byte.
-fn second_fits(lead: u8, byte: u8) -> bool
-    ensures { result ≡ (nat_le (least lead) byte && nat_le byte (most lead)) }
+// How long the character is that begins the bytes, absent where none does.
+fn char_length(bytes: &[u8]) -> Option<usize>
+    ensures { Step bytes.now result }
 {
-    least_second(lead) <= byte && byte <= most_second(lead)
+    let (lead, rest) = bytes.split_first()?;
+    let length = usize::from(lead_length(*lead));
+    let others = rest.get(..length.checked_sub(1)?)?;
+    others_fit(*lead, others).then_some(length)
 }
 
-// Whether the byte may come third or fourth.
-fn follows(byte: u8) -> bool
-    ensures { result ≡ (nat_le 0x80 byte && nat_le byte 0xBF) }
+// Whether the bytes may come after the lead byte.
+fn others_fit(lead: u8, others: &[u8]) -> bool
+    ensures { result ≡ fits lead others.now }
 {
-    0x80 <= byte && byte <= 0xBF
+    let Some((second, rest)) = others.split_first() else {
+        return true;
+    };
+    second_fits(lead, *second) && all_follow(rest)
+}
+
+// Whether each byte may come third or fourth.
+fn all_follow(bytes: &[u8]) -> bool
+    ensures { result ≡ list_all follower bytes.now }
+{
+    bytes.iter().all(|byte| follows(*byte))
 }

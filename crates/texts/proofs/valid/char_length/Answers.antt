@@ -1,39 +1,32 @@
-use Rattle.std.proofs.Common.{◌+◌, get_or, sym, ◌∙◌, arith}
-use Rattle.texts.proofs.LeadBytes.{refused, taken, fits_yes, fits_no, follows_yes, follows_no}
+use Rattle.std.proofs.Common.{◌≡◌, ◌-◌, ◌≤◌, ◌<◌, ◌∷◌, length, take, sym, ◌∙◌, subst, rules}
+use Rattle.texts.specs.Leads.{fits}
+use Rattle.texts.specs.Steps.{Step}
+use Rattle.texts.proofs.LeadBytes.{empty, refused_lead, refused_short, step_by}
 use Rattle.texts.proofs.valid.char_length.Goals as goal
-use Rattle.texts.proofs.valid.char_length.Goals.{else-n-gt1-via-then-n-gt1+else-not-second_fits, else-n-gt1-via-else-n-gt1}
-use Rattle.texts.proofs.valid.char_length.Goals.{else-n-gt2-via-then-n-gt2+else-not-follows, else-n-gt2-via-else-n-gt2}
-use Rattle.texts.proofs.valid.char_length.Goals.{else-n-gt3-via-then-n-gt3+else-not-follows-2, else-n-gt3-via-else-n-gt3}
 
-pub returns-then-n-eq0 : goal.returns-then-n-eq0
-returns-then-n-eq0 c =
-    refused c.args.bytes.now c.args.at _ (omega arith) c.lead_length-n.ensures.value (λ t. omega (arith, t.there))
+pub returns-in_err-lead : goal.returns-in_err-lead
+returns-in_err-lead c = subst (Step c.args.bytes.now) (sym c.from_residual.ensures) (empty c.args.bytes.now c.in_err-lead.ensures.cases)
 
-pub returns-then-bytes-at : goal.returns-then-bytes-at
-returns-then-bytes-at c =
-    refused c.args.bytes.now c.args.at _ (omega arith) c.lead_length-n.ensures.value (λ t. omega (arith, t.room))
+pub returns-in_err-checked_sub : goal.returns-in_err-checked_sub
+returns-in_err-checked_sub c =
+    let b : c.args.bytes.now ≡ c.in_ok-lead.lead.now ∷ c.in_ok-lead.rest.now = search rules in
+    subst (Step c.args.bytes.now) (sym c.from_residual-in_err-checked_sub.ensures)
+    (refused_lead c.args.bytes.now c.in_ok-lead.rest.now c.in_ok-lead.lead.now c.from-length.result b (c.from-length.ensures ∙ c.lead_length.ensures.value) c.in_err-checked_sub.ensures)
 
-pub returns-then-not-second_fits : goal.returns-then-not-second_fits
-returns-then-not-second_fits c =
-    refused c.args.bytes.now c.args.at _ (omega arith) c.lead_length-n.ensures.value
-    (λ t. fits_no (get_or c.args.bytes.now c.args.at 0) (get_or c.args.bytes.now (c.args.at + 1) 0) (sym c.second_fits.ensures ∙ c.if-not-second_fits.true) (t.second c.if-n-gt1.true))
-
-pub returns-then-not-follows : goal.returns-then-not-follows
-returns-then-not-follows c =
-    refused c.args.bytes.now c.args.at _ (omega arith) c.lead_length-n.ensures.value
-    (λ t. follows_no (get_or c.args.bytes.now (c.args.at + 2) 0) (sym c.follows.ensures ∙ c.if-not-follows.true) (t.third c.if-n-gt2.true))
-
-pub returns-then-not-follows-2 : goal.returns-then-not-follows-2
-returns-then-not-follows-2 c =
-    refused c.args.bytes.now c.args.at _ (omega arith) c.lead_length-n.ensures.value
-    (λ t. follows_no (get_or c.args.bytes.now (c.args.at + 3) 0) (sym c.follows-then-n-gt3.ensures ∙ c.if-not-follows-2.true) (t.fourth c.if-n-gt3.true))
+pub returns-in_err-others : goal.returns-in_err-others
+returns-in_err-others c =
+    let b : c.args.bytes.now ≡ c.in_ok-lead.lead.now ∷ c.in_ok-lead.rest.now = search rules in
+    let h : length c.in_ok-lead.rest.now < c.from-length.result - 1 = search rules in
+    subst (Step c.args.bytes.now) (sym c.from_residual-in_err-others.ensures)
+    (refused_short c.args.bytes.now c.in_ok-lead.rest.now c.in_ok-lead.lead.now c.from-length.result b (c.from-length.ensures ∙ c.lead_length.ensures.value) h)
 
 pub returns : goal.returns
 returns c =
-    taken c.args.bytes.now c.args.at _ (omega arith) c.lead_length-n.ensures.value (record {
-      there = omega arith;
-      room = omega arith;
-      second = λ t. elim c.else-n-gt1.branch [ else-n-gt1-via-then-n-gt1+else-not-second_fits w ↦ fits_yes (get_or c.args.bytes.now c.args.at 0) (get_or c.args.bytes.now (c.args.at + 1) 0) (sym w.second_fits.ensures ∙ w.if-not-second_fits.false) | else-n-gt1-via-else-n-gt1 w ↦ absurd (omega (arith, w.if-n-gt1.false)) ];
-      third = λ t. elim c.else-n-gt2.branch [ else-n-gt2-via-then-n-gt2+else-not-follows w ↦ follows_yes (get_or c.args.bytes.now (c.args.at + 2) 0) (sym w.follows.ensures ∙ w.if-not-follows.false) | else-n-gt2-via-else-n-gt2 w ↦ absurd (omega (arith, w.if-n-gt2.false)) ];
-      fourth = λ t. elim c.else-n-gt3.branch [ else-n-gt3-via-then-n-gt3+else-not-follows-2 w ↦ follows_yes (get_or c.args.bytes.now (c.args.at + 3) 0) (sym w.follows-then-n-gt3.ensures ∙ w.if-not-follows-2.false) | else-n-gt3-via-else-n-gt3 w ↦ absurd (omega (arith, w.if-n-gt3.false)) ];
-    })
+    let x = c.in_ok-lead.lead.now in
+    let ys = c.in_ok-lead.rest.now in
+    let n = c.from-length.result in
+    let b : c.args.bytes.now ≡ x ∷ ys = search rules in
+    let p : 1 ≤ n = search rules in
+    let h : n - 1 ≤ length ys = search rules in
+    let f : c.others_fit.result ≡ fits x (take (n - 1) ys) = search rules in
+    subst (Step c.args.bytes.now) (sym c.then_some.ensures) (step_by c.args.bytes.now ys x n b (c.from-length.ensures ∙ c.lead_length.ensures.value) c.others_fit.result p h f)

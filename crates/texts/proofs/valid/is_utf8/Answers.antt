@@ -1,25 +1,19 @@
-use Rattle.std.proofs.Common.{◌≡◌, arith}
-use Rattle.std.proofs.lemmas.Str.{IsUtf8-nil}
-use Rattle.std.proofs.str.Valid.{longer, whole}
-use Rattle.std.proofs.str.Faults.{valid_to, not_text}
-use Rattle.texts.proofs.Tables.{valid_yes, valid_no}
+use Rattle.std.proofs.Common.{◌+◌, ◌≤◌, length, take, drop, IsUtf8, ap, ◌∙◌, subst, arith}
+use Rattle.std.proofs.str.Valid.{longer}
+use Rattle.std.proofs.lemmas.List.{length-drop, drop-drop, take_rest}
+use Rattle.texts.proofs.LeadBytes.{valid_rest}
 use Rattle.texts.proofs.valid.is_utf8.Goals as goal
 
-pub loop-at-init : goal.loop-at-init
-loop-at-init c = (omega arith, IsUtf8-nil)
-
-pub returns-then-n-eq0 : goal.returns-then-n-eq0
-returns-then-n-eq0 c =
+pub loop-length-preserved : goal.loop-length-preserved
+loop-length-preserved c =
     let b = c.args.bytes.now in
-    let at = c.loop-at.at in
-    let n : c.char_length-n.result ≡ 0 = omega arith in
-    valid_no b (not_text b at (valid_to b at (omega arith) c.loop-at.invariant.1 (c.char_length-n.ensures.none n)))
-
-pub loop-at-preserved : goal.loop-at-preserved
-loop-at-preserved c = (
-  c.char_length-n.ensures.few,
-  longer c.args.bytes.now c.loop-at.at c.char_length-n.result c.loop-at.invariant.1 c.char_length-n.ensures.text,
-)
+    let i = c.loop-length.invariant in
+    let n = c.in-Some.length in
+    let s = c.in-Some.ensures in
+    let h : i.0 + n ≤ length b = omega (arith, ap length i.2, length-drop i.0 b, s.1) in
+    (i.0 + n, h, take_rest c.loop-length.rest.now n ∙ ap (drop n) i.2 ∙ drop-drop n i.0 b, longer b i.0 n i.3 (subst (λ t. IsUtf8 (take n t)) i.2 s.2))
 
 pub returns : goal.returns
-returns c = valid_yes c.args.bytes.now (whole c.args.bytes.now c.loop-at.at (omega arith) c.loop-at.invariant.1)
+returns c =
+    let i = c.loop-length.invariant in
+    valid_rest c.args.bytes.now c.loop-length.rest.now i.0 c.is_empty.result i.1 i.2 i.3 c.in_default.ensures c.is_empty.ensures

@@ -1,8 +1,9 @@
-use Rattle.std.proofs.Common.{◌-◌, ◌≤◌, length, take, IsUtf8}
+use Rattle.std.proofs.Common.{◌≡◌, ℕ, ◌≤◌, length, take, drop, IsUtf8}
 use Rattle.texts.proofs.valid.is_utf8.Given as goal
 
-abbrev pub invariant-loop-at : goal.invariant-loop-at
-invariant-loop-at l = (l.at ≤ length l.bytes) × IsUtf8 (take l.at l.bytes)
+-- what is left stands behind a front that is text
+abbrev pub invariant-loop-length : goal.invariant-loop-length
+invariant-loop-length l = (k : ℕ) × (k ≤ length l.bytes) × (l.rest ≡ drop k l.bytes) × IsUtf8 (take k l.bytes)
 
-abbrev pub decreases-loop-at : goal.decreases-loop-at
-decreases-loop-at l = length l.bytes - l.at
+abbrev pub decreases-loop-length : goal.decreases-loop-length
+decreases-loop-length l = length l.rest
