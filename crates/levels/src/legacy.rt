@@ -1,4 +1,4 @@
-ghost use Rattle.std.specs.Prelude.{◌≡◌, ◌+◌, ◌*◌, ◌≤◌};
+ghost use Rattle.std.specs.Prelude.{◌≡◌, refl, ◌+◌, ◌*◌, ◌≤◌};
 ghost use Rattle.levels.specs.Coders.{legacy_coding};
 ghost use Rattle.levels.specs.Formats.{bytes_for};
 ghost use Rattle.levels.specs.Lists.{Limits};
@@ -27,17 +27,13 @@ impl LevelCoder for Legacy {
 
     const VERSION_2: bool = false;
 
-    fn encoding_number() -> u8 {
-        Self::ENCODING
-    }
+    ghost ENCODING = { legacy_coding.number };
 
-    fn is_framed() -> bool {
-        Self::FRAMED
-    }
+    ghost FRAMED = { legacy_coding.framed };
 
-    fn in_version_2() -> bool {
-        Self::VERSION_2
-    }
+    ghost VERSION_2 = { legacy_coding.second };
+
+    ghost constants_agree = { (refl, refl, refl) };
 
     fn size(n: usize, b: u32) -> Option<usize> {
         if !admits(n, b) {

@@ -1,4 +1,4 @@
-ghost use Rattle.std.specs.Prelude.{◌≡◌, ◌+◌, ◌*◌};
+ghost use Rattle.std.specs.Prelude.{◌≡◌, refl, ◌+◌, ◌*◌};
 ghost use Rattle.bits.specs.Packing.{groups};
 ghost use Rattle.levels.specs.Coders.{packed_coding};
 ghost use Rattle.levels.specs.Lists.{Limits};
@@ -28,17 +28,13 @@ impl LevelCoder for Packed {
 
     const VERSION_2: bool = true;
 
-    fn encoding_number() -> u8 {
-        Self::ENCODING
-    }
+    ghost ENCODING = { packed_coding.number };
 
-    fn is_framed() -> bool {
-        Self::FRAMED
-    }
+    ghost FRAMED = { packed_coding.framed };
 
-    fn in_version_2() -> bool {
-        Self::VERSION_2
-    }
+    ghost VERSION_2 = { packed_coding.second };
+
+    ghost constants_agree = { (refl, refl, refl) };
 
     fn size(n: usize, b: u32) -> Option<usize> {
         if !admits(n, b) {
