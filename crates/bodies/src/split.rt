@@ -1,4 +1,4 @@
-ghost use Rattle.std.specs.Prelude.{◌≡◌};
+ghost use Rattle.std.specs.Prelude.{refl};
 ghost use Rattle.bodies.specs.Bodies.{split_body};
 
 use body_coder::{BodyCoder, is_whole};
@@ -14,13 +14,11 @@ impl BodyCoder for Split {
 
     const BYTE_ARRAY: bool = false;
 
-    fn encoding_number() -> u8 {
-        Self::ENCODING
-    }
+    ghost ENCODING = { split_body.number };
 
-    fn admits_byte_array() -> bool {
-        Self::BYTE_ARRAY
-    }
+    ghost BYTE_ARRAY = { split_body.joins };
+
+    ghost constants_agree = { (refl, refl) };
 
     fn code(k: usize, bytes: &[u8], out: &mut [u8]) -> Option<usize> {
         if !is_whole(false, k, bytes.len()) {
