@@ -1,5 +1,5 @@
 ghost use Rattle.std.specs.Prelude.{◌≡◌, ℕ, ◌*◌, ◌≤◌, length, Decides};
-ghost use Rattle.bits.specs.Rows.{Fit};
+ghost use Rattle.bits.specs.Rows.{Fit, packed};
 ghost use Rattle.bits.specs.Packing.{Room, Written, Packs, Unpacks, Repacked};
 
 use crate::order::BitOrder;
@@ -43,6 +43,15 @@ fn fits(numbers: &[u8], b: u32) -> bool
         .all(|number| u32::from(*number) >> b == 0)
 }
 
+// Packs levels that fit into all of `out`.
+fn fill(order: BitOrder, levels: &[u8], b: u32, out: &mut [u8])
+    requires room { Room (length levels.now) b (length out.old) }
+    requires fit { Fit b levels.now }
+    ensures { out.new ≡ packed order b (length out.old) levels.now }
+{
+    repack(order, levels, b, 8, out);
+}
+
 // Packs the levels, of `b` bits each, into all of `out`, if it has room for them and no more: else nothing is changed.
 pub fn pack(order: BitOrder, levels: &[u8], b: u32, out: &mut [u8]) -> Option<()>
     ensures { Packs order b levels.now out.old out.new result }
@@ -53,7 +62,7 @@ pub fn pack(order: BitOrder, levels: &[u8], b: u32, out: &mut [u8]) -> Option<()
     if !fits(levels, b) {
         return None;
     }
-    repack(order, levels, b, 8, out);
+    fill(order, levels, b, out);
     Some(())
 }
 
