@@ -7,7 +7,6 @@ use crate::order::BitOrder;
 // Writes numbers of `q` bits into all of `out`, from the bits of numbers of `p` bits and 0 behind the last.
 // A turn goes through one word: `q` numbers of `p` bits are as many bits as `p` numbers of `q`.
 fn repack(order: BitOrder, src: &[u8], p: u32, q: u32, out: &mut [u8])
-    requires from { p ≤ 8 }
     requires to { q ≤ 8 }
     requires word { q * p ≤ 32 }
     requires some { p ≡ 0 → length out.old ≡ 0 }
