@@ -37,9 +37,7 @@ fn fits(numbers: &[u8], b: u32) -> bool
     requires { b ≤ 8 }
     ensures { Decides result (Fit b numbers.now) }
 {
-    numbers
-        .iter()
-        .all(|number| u32::from(*number) >> b == 0)
+    numbers.iter().all(|number| u32::from(*number) >> b == 0)
 }
 
 // Packs levels that fit into all of `out`.

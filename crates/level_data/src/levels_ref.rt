@@ -74,13 +74,7 @@ impl<'a> LevelDataRef<'a> {
         match self {
             Self::Absent => total,
             Self::Materialized(levels) => levels.iter().filter(|level| **level == max_def).count(),
-            Self::Uniform { value, count } => {
-                if value == max_def {
-                    count
-                } else {
-                    0
-                }
-            }
+            Self::Uniform { value, count } => { if value == max_def { count } else { 0 } }
         }
     }
 }

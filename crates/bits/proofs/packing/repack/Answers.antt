@@ -1,4 +1,4 @@
-use Rattle.std.proofs.Common.{◌≡◌, ℕ, ◌+◌, ◌*◌, ◌<◌, ◌≤◌, length, arith}
+use Rattle.std.proofs.Common.{◌*◌, ◌<◌, ◌≤◌, length, arith}
 use Rattle.bits.proofs.Cuts.{turned_none, turned_more, turned_all, repacked_empty, some_bits, turn_begins, turns_reach}
 use Rattle.bits.proofs.packing.repack.Goals as goal
 

@@ -12,10 +12,10 @@ pub join-acc-requires : goal.join-acc-requires
 join-acc-requires c =
     let e : c.unwrap_or-v.result ≡ get_or c.args.src.now (c.args.at + c.loop-t.t) 0 = search rules in
     record {
-  few = omega (arith, c.requires.word, add-mul c.loop-t.t 1 c.args.width, mul-le (c.loop-t.t + 1) c.args.width c.args.count c.args.width (omega arith) (omega arith));
-  holds = c.loop-t.invariant.0;
-  fits = subst (λ n. n < 2 ^ c.args.width) (sym e) (fit_get c.args.width c.args.src.now (c.args.at + c.loop-t.t) c.requires.fit);
-}
+      few = omega (arith, c.requires.word, add-mul c.loop-t.t 1 c.args.width, mul-le (c.loop-t.t + 1) c.args.width c.args.count c.args.width (omega arith) (omega arith));
+      holds = c.loop-t.invariant.0;
+      fits = subst (λ n. n < 2 ^ c.args.width) (sym e) (fit_get c.args.width c.args.src.now (c.args.at + c.loop-t.t) c.requires.fit);
+    }
 
 pub loop-t-preserved : goal.loop-t-preserved
 loop-t-preserved c =
