@@ -14,9 +14,11 @@ fn repack(order: BitOrder, src: &[u8], p: u32, q: u32, out: &mut [u8])
     requires fit { Fit p src.now }
     ensures { Repacked order p q src.now (length out.old) out.new }
 {
+    // With no number to write, `p` may be 0.
     if out.is_empty() {
         return;
     }
+    // By ranges: behind `chunks_mut` the proof knows no number of `out`.
     for turn in 0..out.len().div_ceil(p as usize) {
         let from = turn * p as usize;
         let to = (from + p as usize).min(out.len());
@@ -40,7 +42,7 @@ fn fits(numbers: &[u8], b: u32) -> bool
     numbers.iter().all(|number| u32::from(*number) >> b == 0)
 }
 
-// Packs levels that fit into all of `out`.
+// Packs levels that fit into all of `out`. It stands apart so that levels too wide are refused at its call.
 fn fill(order: BitOrder, levels: &[u8], b: u32, out: &mut [u8])
     requires room { Room (length levels.now) b (length out.old) }
     requires fit { Fit b levels.now }
@@ -53,6 +55,7 @@ fn fill(order: BitOrder, levels: &[u8], b: u32, out: &mut [u8])
 pub fn pack(order: BitOrder, levels: &[u8], b: u32, out: &mut [u8]) -> Option<()>
     ensures { Packs order b levels.now out.old out.new result }
 {
+    // Two tests in a row: behind one `||` the proof knows neither fact.
     if !has_room(levels.len(), b, out.len()) {
         return None;
     }

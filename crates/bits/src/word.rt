@@ -49,6 +49,7 @@ impl BitOrder {
         ensures bits { bits_of self (count * width) result ≡ row self width (first count (drop at src.now)) }
     {
         let mut acc = 0;
+        // By count and not over `src`: a turn may reach behind its last number.
         for t in 0..count {
             let v = src.get(at + t as usize).copied().unwrap_or(0);
             acc = self.join(acc, t * width, v, width);

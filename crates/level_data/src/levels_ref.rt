@@ -2,7 +2,7 @@ ghost use Rattle.std.specs.Prelude.{◌≡◌, ◌+◌, ◌<◌, ◌≤◌, leng
 ghost use Rattle.std.specs.List.{slice_get};
 ghost use Rattle.level_data.specs.Levels.{levels_of, listed, Sliced, value_count};
 
-// Borrowed levels. A repeated value stands for the list of that length.
+// Borrowed levels. A repeated value stands for the list of that length, so there is no `==`, which would tell the two apart.
 #[derive(Clone, Copy, Debug)]
 pub enum LevelDataRef<'a> {
     Absent,

@@ -5,7 +5,7 @@ ghost use Rattle.levels.specs.Lists.{Limits, Wrote, Took};
 use crate::header::Header;
 use bits::BitOrder;
 
-// Whether a coder takes `n` levels of `b` bits.
+// Whether a coder takes `n` levels of `b` bits. A test, and not an Option: the list that is built behind it needs the fact.
 pub(crate) fn admits(n: usize, b: u32) -> bool
     ensures { Decides result (Limits n b) }
 {
@@ -42,6 +42,7 @@ impl LevelList {
         let front = self.header.as_slice();
         let at = front.len();
         let size = at + self.len;
+        // A test and a range: behind `get_mut` the proof knows no byte of the list.
         if out.len() < size {
             return None;
         }
@@ -56,6 +57,7 @@ impl LevelList {
     {
         let behind = bytes.strip_prefix(self.header.as_slice())?;
         let body = behind.get(..self.len)?;
+        // Likewise.
         if levels.len() < self.n {
             return None;
         }

@@ -19,6 +19,7 @@ fn write_streams(values: &[u8], n: usize, k: usize, out: &mut [u8])
     ensures whole { out.new ≡ streams n k values.now ++ drop (n * k) out.old }
     ensures places { EachPlace n k values.now out.new }
 {
+    // By ranges: behind `chunks_exact_mut` the proof knows no byte of `out`.
     for j in 0..k {
         write_stream(values, j, k, &mut out[j * n..(j + 1) * n]);
     }
@@ -29,13 +30,9 @@ pub fn scatter(values: &[u8], n: usize, k: usize, out: &mut [u8]) -> Option<usiz
     ensures whole { Scattered n k values.now out.old out.new result }
     ensures places { InPlace n k values.now out.new result }
 {
-    let size = n.checked_mul(k)?;
-    if values.len() < size {
-        return None;
-    }
-    if out.len() < size {
-        return None;
-    }
+    let size = n
+        .checked_mul(k)
+        .filter(|size| *size <= values.len() && *size <= out.len())?;
     write_streams(values, n, k, out);
     Some(size)
 }
