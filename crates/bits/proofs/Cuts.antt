@@ -1,10 +1,11 @@
 -- What is cut from a row of bits: in two parts, from its front alone, and from the row of numbers of another width.
-use Rattle.std.proofs.Common.{◌≡◌, ℕ, zero, suc, ◌+◌, ◌-◌, ◌*◌, ◌<◌, ◌≤◌, min, Bool, false, List, [], ◌∷◌, ◌++◌, length, take, drop, replicate, sym, refl, ap, ◌∙◌, subst, ⊎_elim, append_assoc, suc-mul, mul_comm, add-mul, suc-add, zero-add, zero-mul, arith}
+use Rattle.std.proofs.Common.{◌≡◌, ℕ, zero, suc, ◌+◌, ◌-◌, ◌*◌, ◌/◌, ◌%◌, ◌<◌, ◌≤◌, min, Bool, false, List, ◌∷◌, ◌++◌, length, take, drop, replicate, sym, refl, ap, ◌∙◌, subst, ⊎_elim, append_assoc, suc-mul, mul_assoc, mul_comm, add-mul, suc-add, zero-add, zero-mul, arith}
 use borrow.Rule.Slice.PartMut.{put_mid}
 use Rattle.std.proofs.lemmas.Slice.{take-put_mid}
 use Rattle.std.proofs.lemmas.Nat.{mul-le}
 use Rattle.std.proofs.lemmas.Bool.{cases_lt}
-use Rattle.std.proofs.lemmas.List.{take_at, drop_at, drop-drop, take-append-le, drop-append-le, length-append, length-drop, length-take-le, length-replicate, replicate-append-replicate, take_all}
+use Rattle.std.proofs.lemmas.Grind.{div_ceil_times}
+use Rattle.std.proofs.lemmas.List.{take_at, drop_at, drop-drop, take-append-le, drop-append-le, length-append, length-drop, length-take-le, length-replicate, replicate-append-replicate, take_all, nil_from_length}
 use Rattle.bits.specs.declared.order.BitOrder.{BitOrder}
 use Rattle.bits.specs.Rows.{bits_of, value_of, row, cut, first, packed, Fit}
 use Rattle.bits.specs.Packing.{Repacked}
@@ -107,14 +108,47 @@ repacked_more o p q src out ys i j e w front even le in' bs y =
     ∙ ap (λ n. cut o q n (row o p (first i src) ++ row o p (first q (drop i src)))) s
     ∙ ap (cut o q e) (sym (row-append o p (first i src) (first q (drop i src))) ∙ ap (row o p) (sym (first_add i q src)))
 
-pub repacked_none : (o : BitOrder) (p q : ℕ) (src : List ℕ) → [] ≡ cut o q 0 (row o p (first 0 src))
-unfolding cut
-repacked_none o p q src = refl
+pub length-put_mid : (j k : ℕ) (out ys : List ℕ) → length ys ≡ k → j + k ≤ length out → length (put_mid j k out ys) ≡ length out
+length-put_mid j k out ys l h =
+    length-append (take j out) (ys ++ drop k (drop j out))
+    ∙ omega (arith, length-append ys (drop k (drop j out)), length-drop k (drop j out), length-drop j out, length-take-le j out (omega arith))
 
-pub repacked_all : (o : BitOrder) (p q : ℕ) (src out : List ℕ) (i j n : ℕ) → take j out ≡ cut o q j (row o p (first i src)) → j * q ≤ i * p → j ≡ length out → j ≡ n → Repacked o p q src n out
-repacked_all o p q src out i j n front le l e k h =
+-- before a turn, the numbers of the turns before it stand in front
+abbrev pub Turned : BitOrder → ℕ → ℕ → List ℕ → List ℕ → ℕ → Type 0
+Turned o p q src out t = take (min (t * p) (length out)) out ≡ cut o q (min (t * p) (length out)) (row o p (first (t * q) src))
+
+pub turned_none : (o : BitOrder) (p q : ℕ) (src out : List ℕ) → Turned o p q src out 0
+unfolding cut
+turned_none o p q src out = let z : min (0 * p) (length out) ≡ 0 = omega arith in rw z refl
+
+pub turned_more : (o : BitOrder) (p q : ℕ) (src out ys : List ℕ) (t e w : ℕ) → Turned o p q src out t → t * p < length out → e ≡ min (t * p + p) (length out)
+    → length ys ≡ length (take (e - t * p) (drop (t * p) out)) → bits_of o (q * p) w ≡ row o p (first q (drop (t * q) src))
+    → ys ≡ cut o q (length (take (e - t * p) (drop (t * p) out))) (bits_of o (q * p) w) → Turned o p q src (put_mid (t * p) (e - t * p) out ys) (t + 1)
+turned_more o p q src out ys t e w turned lt is l bs y =
+    let j : ℕ = t * p in
+    let front : take j out ≡ cut o q j (row o p (first (t * q) src)) =
+    subst (λ m. take m out ≡ cut o q m (row o p (first (t * q) src))) (let m : min j (length out) ≡ j = omega arith in m) turned in
+    let m : length (take (e - j) (drop j out)) ≡ e - j = length-take-le (e - j) (drop j out) (simp length-drop (omega arith)) in
+    let n : length (put_mid j (e - j) out ys) ≡ length out = length-put_mid j (e - j) out ys (l ∙ m) (omega arith) in
+    let even : j * q ≡ (t * q) * p = mul_assoc t p q ∙ ap (λ x. t * x) (mul_comm p q) ∙ sym (mul_assoc t q p) in
+    let more : take e (put_mid j (e - j) out ys) ≡ cut o q e (row o p (first (t * q + q) src)) =
+    repacked_more o p q src out ys (t * q) j e w front even (omega arith) (omega arith) bs y in
+    let up : t * q + q ≡ (t + 1) * q = omega (arith, add-mul t 1 q) in
+    let at : e ≡ min ((t + 1) * p) (length (put_mid j (e - j) out ys)) = omega (arith, add-mul t 1 p) in
+    subst (λ x. take x (put_mid j (e - j) out ys) ≡ cut o q x (row o p (first ((t + 1) * q) src))) at (more ∙ ap (λ x. cut o q e (row o p (first x src))) up)
+
+pub turned_all : (o : BitOrder) (p q : ℕ) (src out : List ℕ) (t n : ℕ) → Turned o p q src out t → length out ≤ t * p → length out ≡ n → Repacked o p q src n out
+turned_all o p q src out t n turned whole e k h =
+    let j : ℕ = length out in
+    let front : take j out ≡ cut o q j (row o p (first (t * q) src)) =
+    subst (λ m. take m out ≡ cut o q m (row o p (first (t * q) src))) (let m : min (t * p) j ≡ j = omega arith in m) turned in
+    let le : j * q ≤ (t * q) * p = omega (arith, mul-le j q (t * p) q whole (omega arith), mul_assoc t p q ∙ ap (λ x. t * x) (mul_comm p q) ∙ sym (mul_assoc t q p)) in
     let h2 : j * q ≤ k * p = subst (λ m. m * q ≤ k * p) (sym e) h in
-    sym (take_all j out (omega arith)) ∙ front ∙ any-first o p q j i k src le h2 ∙ ap (λ m. cut o q m (row o p (first k src))) e
+    sym (take_all j out (omega arith)) ∙ front ∙ any-first o p q j (t * q) k src le h2 ∙ ap (λ m. cut o q m (row o p (first k src))) e
+
+pub repacked_empty : (o : BitOrder) (p q : ℕ) (src out : List ℕ) → length out ≡ 0 → Repacked o p q src (length out) out
+unfolding cut
+repacked_empty o p q src out e k h = nil_from_length out e ∙ ap (λ m. cut o q m (row o p (first k src))) (sym e)
 
 pub some_bits : (p n : ℕ) → (p ≡ 0 → n ≡ 0) → 0 < n → 0 < p
 some_bits zero n h l = absurd (omega (arith, h refl))
@@ -125,14 +159,9 @@ unfolding packed
 fit_packed o b k ls h =
     fit_cut o 8 k _ (rw length-append (omega (arith, length-row o b ls, length-replicate (8 * k - length ls * b) false)))
 
-pub length-put_mid : (j k : ℕ) (out ys : List ℕ) → length ys ≡ k → j + k ≤ length out → length (put_mid j k out ys) ≡ length out
-length-put_mid j k out ys l h =
-    length-append (take j out) (ys ++ drop k (drop j out))
-    ∙ omega (arith, length-append ys (drop k (drop j out)), length-drop k (drop j out), length-drop j out, length-take-le j out (omega arith))
+-- a turn begins before the end, and the last one reaches it
+pub turn_begins : (t n p : ℕ) → 0 < p → t < n / p + min 1 (n % p) → t * p < n
+turn_begins t n p h l = omega (arith, (div_ceil_times n p h).1, mul-le (t + 1) p (n / p + min 1 (n % p)) p (omega arith) (omega arith), add-mul t 1 p)
 
--- the counts after a turn
-pub turn_counts : (i j e n p q : ℕ) → j * q ≡ i * p → e ≡ min (j + p) n → (e * q ≤ (i + q) * p) × (e < n → e * q ≡ (i + q) * p)
-turn_counts i j e n p q even m =
-    let s : (j + p) * q ≡ (i + q) * p = omega (arith, add-mul j p q, add-mul i q p, mul_comm p q) in
-    let le : e ≤ j + p = omega arith in
-    (omega (arith, mul-le e q (j + p) q le (omega arith)), (λ h. let x : e ≡ j + p = omega arith in ap (λ y. y * q) x ∙ s))
+pub turns_reach : (t n p : ℕ) → 0 < p → t ≡ n / p + min 1 (n % p) → n ≤ t * p
+turns_reach t n p h e = subst (λ m. n ≤ m * p) (sym e) (div_ceil_times n p h).0

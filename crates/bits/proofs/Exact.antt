@@ -1,6 +1,9 @@
 -- Bytes are those of levels exactly if the levels of their whole groups are these and 0 behind them.
-use Rattle.std.proofs.Common.{◌≡◌, ℕ, ◌+◌, ◌-◌, ◌*◌, ◌/◌, ◌%◌, ◌≤◌, Bool, false, List, [], ◌++◌, length, take, drop, replicate, Decides, sym, ap, ◌∙◌, subst, append_assoc, mul_assoc, add-mul, arith}
+use Rattle.std.proofs.Common.{◌≡◌, ℕ, zero, suc, ◌+◌, ◌-◌, ◌*◌, ◌/◌, ◌%◌, ◌≤◌, Bool, false, eqb, List, [], ◌∷◌, ◌++◌, length, take, drop, replicate, Decides, sym, refl, ap, ◌∙◌, subst, append_assoc, mul_assoc, add-mul, arith}
 use lib.Seq.{drop-append-add}
+use Rattle.std.specs.List.{list_all, AllByRecursion}
+use Rattle.std.proofs.ByRecursion.{Decides-by_and}
+use Rattle.std.proofs.lemmas.Bool.Decides.{Decides-at, Decides-like, Decides-eqb}
 use Rattle.std.proofs.lemmas.Nat.{mul-le}
 use Rattle.std.proofs.lemmas.List.{append-nil, take_at, drop_at, length-append, length-replicate, replicate-append-replicate, take-append-drop}
 use Rattle.bits.specs.declared.order.BitOrder.{BitOrder}
@@ -41,6 +44,20 @@ module _ (o : BitOrder) (b N M : ℕ) (bytes ls : List ℕ) (even : N * b ≡ M 
       ∙ append_assoc (row o b ls) (replicate (8 * length bytes - length ls * b) false) (replicate ((M - length bytes) * 8) false)
       ∙ ap (λ x. row o b ls ++ x) zeros ∙ sym (row_first o b N ls few) in
       ap (cut o b N) (r ∙ sym (append-nil (row o b (first N ls)))) ∙ ap (λ n. cut o b n (row o b (first N ls) ++ [])) (sym (length-first N ls)) ∙ cut-row o b (first N ls) [] (first_fit b N ls fit)
+
+-- a list of zeros
+zeros_of : (xs : List ℕ) → AllByRecursion {X = ℕ} (λ x. x ≡ 0) xs → xs ≡ replicate (length xs) 0
+zeros_of [] h = refl
+zeros_of (x ∷ xs) h = ap (λ y. y ∷ xs) h.0 ∙ ap (λ l. 0 ∷ l) (zeros_of xs h.1)
+
+all_zeros : (n : ℕ) → AllByRecursion {X = ℕ} (λ x. x ≡ 0) (replicate n 0)
+all_zeros zero = tt
+all_zeros (suc n) = (refl, all_zeros n)
+
+pub zeros_decided : (xs : List ℕ) (n : ℕ) (r : Bool) → length xs ≡ n → r ≡ list_all (λ x. eqb x 0) xs → Decides r (xs ≡ replicate n 0)
+zeros_decided xs n r l e =
+    Decides-at r _ e (Decides-like _ (λ h. zeros_of xs h ∙ ap (λ m. replicate m 0) l) (λ h. subst (AllByRecursion {X = ℕ} (λ x. x ≡ 0)) (sym h) (all_zeros n))
+    (Decides-by_and (λ x. eqb x 0) (λ x. x ≡ 0) (list_all (λ x. eqb x 0)) (λ x. Decides-eqb x 0) refl (λ _ _. refl) xs))
 
 -- all levels of the groups that n levels begin
 in_groups : BitOrder → ℕ → ℕ → List ℕ → List ℕ

@@ -1,5 +1,5 @@
 -- What packing and reading answer, for every input.
-use Rattle.std.specs.Prelude.{◌≡◌, ℕ, ◌+◌, ◌*◌, ◌/◌, ◌≤◌, Bool, true, false, List, length}
+use Rattle.std.specs.Prelude.{◌≡◌, ℕ, ◌+◌, ◌*◌, ◌/◌, ◌≤◌, List, length, Some, None, Option}
 use Rattle.bits.specs.declared.order.BitOrder.{BitOrder}
 use Rattle.bits.specs.Rows.{row, cut, first, packed, Fit}
 
@@ -22,14 +22,14 @@ pub record Written (o : BitOrder) (b n : ℕ) (bytes : List ℕ) : Type 0 where
   pub same : bytes ≡ packed o b (length bytes) levels
 
 -- what packing into all of `out` answers, and what `out` then holds
-abbrev pub Packs : BitOrder → ℕ → List ℕ → List ℕ → List ℕ → Bool → Type 0
-Packs o b ls out out' true = Room (length ls) b (length out) × Fit b ls × (out' ≡ packed o b (length out) ls)
-Packs o b ls out out' false = (out' ≡ out) × (Room (length ls) b (length out) → Fit b ls → ⊥)
+abbrev pub Packs : BitOrder → ℕ → List ℕ → List ℕ → List ℕ → Option (Unit {0}) → Type 0
+Packs o b ls out out' (Some _) = Room (length ls) b (length out) × Fit b ls × (out' ≡ packed o b (length out) ls)
+Packs o b ls out out' None = (out' ≡ out) × (Room (length ls) b (length out) → Fit b ls → ⊥)
 
 -- what reading into all of `out` answers: the levels, exactly if the bytes are written
-abbrev pub Unpacks : BitOrder → ℕ → List ℕ → List ℕ → List ℕ → Bool → Type 0
-Unpacks o b bytes out out' true = Room (length out) b (length bytes) × Fit b out' × (bytes ≡ packed o b (length bytes) out')
-Unpacks o b bytes out out' false = (out' ≡ out) × (Room (length out) b (length bytes) → Written o b (length out) bytes → ⊥)
+abbrev pub Unpacks : BitOrder → ℕ → List ℕ → List ℕ → List ℕ → Option (Unit {0}) → Type 0
+Unpacks o b bytes out out' (Some _) = Room (length out) b (length bytes) × Fit b out' × (bytes ≡ packed o b (length bytes) out')
+Unpacks o b bytes out out' None = (out' ≡ out) × (Room (length out) b (length bytes) → Written o b (length out) bytes → ⊥)
 
 -- n numbers of q bits, cut from the row of numbers of p bits with 0 behind the last
 abbrev pub Repacked : BitOrder → ℕ → ℕ → List ℕ → ℕ → List ℕ → Type 0

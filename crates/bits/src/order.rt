@@ -1,5 +1,5 @@
 // Which bit of a number comes first in a row of bits, and fills the first place of a byte.
-#[derive(Clone, Copy)]
+#[derive(Clone, Copy, Debug, PartialEq, Eq)]
 pub enum BitOrder {
     LeastFirst,
     MostFirst,

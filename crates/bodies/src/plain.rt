@@ -1,18 +1,10 @@
-ghost use Rattle.std.specs.Prelude.{◌≡◌, ◌≤◌, ◌++◌, length, drop};
+ghost use Rattle.std.specs.Prelude.{refl};
 ghost use Rattle.bodies.specs.Bodies.{plain_body};
 
 use body_coder::{BodyCoder, is_whole};
 
 // The format's PLAIN.
 pub struct Plain;
-
-// Copies the bytes to the front of `out`.
-fn copy(bytes: &[u8], out: &mut [u8])
-    requires { length bytes.now ≤ length out.old }
-    ensures { out.new ≡ bytes.now ++ drop (length bytes.now) out.old }
-{
-    out[0..bytes.len()].copy_from_slice(bytes);
-}
 
 impl BodyCoder for Plain {
     ghost body = { plain_body };
@@ -21,23 +13,19 @@ impl BodyCoder for Plain {
 
     const BYTE_ARRAY: bool = true;
 
-    fn encoding_number() -> u8 {
-        Self::ENCODING
-    }
+    ghost ENCODING = { plain_body.number };
 
-    fn admits_byte_array() -> bool {
-        Self::BYTE_ARRAY
-    }
+    ghost BYTE_ARRAY = { plain_body.joins };
+
+    ghost constants_agree = { (refl, refl) };
 
     fn code(k: usize, bytes: &[u8], out: &mut [u8]) -> Option<usize> {
-        if !is_whole(true, k, bytes.len()) {
+        let len = bytes.len();
+        if !is_whole(true, k, len) || out.len() < len {
             return None;
         }
-        if out.len() < bytes.len() {
-            return None;
-        }
-        copy(bytes, out);
-        Some(bytes.len())
+        out[..len].copy_from_slice(bytes);
+        Some(len)
     }
 
     fn read(k: usize, bytes: &[u8], out: &mut [u8]) -> Option<usize> {

@@ -1,5 +1,6 @@
-ghost use Rattle.std.specs.Prelude.{◌≡◌};
+ghost use Rattle.std.specs.Prelude.{◌≡◌, ◌/◌, false, Some, None, if◌then◌else◌, refl};
 ghost use Rattle.bodies.specs.Bodies.{split_body};
+ghost use Rattle.body_coder.specs.Body.{whole};
 
 use body_coder::{BodyCoder, is_whole};
 use splits::scatter;
@@ -14,25 +15,30 @@ impl BodyCoder for Split {
 
     const BYTE_ARRAY: bool = false;
 
-    fn encoding_number() -> u8 {
-        Self::ENCODING
-    }
+    ghost ENCODING = { split_body.number };
 
-    fn admits_byte_array() -> bool {
-        Self::BYTE_ARRAY
-    }
+    ghost BYTE_ARRAY = { split_body.joins };
+
+    ghost constants_agree = { (refl, refl) };
 
     fn code(k: usize, bytes: &[u8], out: &mut [u8]) -> Option<usize> {
-        if !is_whole(false, k, bytes.len()) {
-            return None;
-        }
-        scatter(bytes, bytes.len() / k, k, out)
+        let n = value_count(bytes.len(), k)?;
+        scatter(bytes, n, k, out)
     }
 
     fn read(k: usize, bytes: &[u8], out: &mut [u8]) -> Option<usize> {
-        if !is_whole(false, k, bytes.len()) {
-            return None;
-        }
-        scatter(bytes, k, bytes.len() / k, out)
+        let n = value_count(bytes.len(), k)?;
+        scatter(bytes, k, n, out)
+    }
+}
+
+// How many values of `k` bytes `len` bytes are, if they are whole values.
+fn value_count(len: usize, k: usize) -> Option<usize>
+    ensures { result ≡ (if whole false k len then Some (len / k) else None) }
+{
+    if is_whole(false, k, len) {
+        Some(len / k)
+    } else {
+        None
     }
 }

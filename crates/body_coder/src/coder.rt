@@ -1,4 +1,4 @@
-ghost use Rattle.std.specs.Prelude.{◌≡◌};
+ghost use Rattle.std.specs.Prelude.{◌≡◌, ℕ, Bool};
 ghost use Rattle.body_coder.specs.Body.{Body, whole, Wrote};
 
 pub trait BodyCoder {
@@ -10,11 +10,10 @@ pub trait BodyCoder {
     // Whether the coder admits BYTE_ARRAY, of which the plain bytes have no common width.
     const BYTE_ARRAY: bool;
 
-    fn encoding_number() -> u8
-        ensures { result ≡ body.number };
+    // The two as clauses see them.
+    ghost ENCODING: { ℕ };
 
-    fn admits_byte_array() -> bool
-        ensures { result ≡ body.joins };
+    ghost BYTE_ARRAY: { Bool };
 
     // Writes the coded bytes of values of `k` plain bytes each, or of joined ones where `k` is 0, to the front of
     // `out`, and answers how many they are.
@@ -24,6 +23,21 @@ pub trait BodyCoder {
     // The same from coded bytes to plain ones.
     fn read(k: usize, bytes: &[u8], out: &mut [u8]) -> Option<usize>
         ensures { Wrote body k bytes.now (body.plain k bytes.now) out.old out.new result };
+
+    // The constants are those of the meaning.
+    ghost constants_agree: { (ENCODING ≡ body.number) × (BYTE_ARRAY ≡ body.joins) };
+
+    final fn encoding_number() -> u8
+        ensures { result ≡ body.number }
+    {
+        Self::ENCODING
+    }
+
+    final fn admits_byte_array() -> bool
+        ensures { result ≡ body.joins }
+    {
+        Self::BYTE_ARRAY
+    }
 }
 
 // Whether bytes are whole values of `k` bytes or, where `k` is 0, joined bytes are admitted.

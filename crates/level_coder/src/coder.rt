@@ -1,4 +1,4 @@
-ghost use Rattle.std.specs.Prelude.{◌≡◌};
+ghost use Rattle.std.specs.Prelude.{◌≡◌, ℕ, Bool};
 ghost use Rattle.level_coder.specs.Coding.{Coding, Sized, Coded, Read};
 
 pub trait LevelCoder {
@@ -13,14 +13,12 @@ pub trait LevelCoder {
     // Whether version 2 admits the coder.
     const VERSION_2: bool;
 
-    fn encoding_number() -> u8
-        ensures { result ≡ coding.number };
+    // The three as clauses see them.
+    ghost ENCODING: { ℕ };
 
-    fn is_framed() -> bool
-        ensures { result ≡ coding.framed };
+    ghost FRAMED: { Bool };
 
-    fn in_version_2() -> bool
-        ensures { result ≡ coding.second };
+    ghost VERSION_2: { Bool };
 
     // How many bytes `n` levels of `b` bits take.
     fn size(n: usize, b: u32) -> Option<usize>
@@ -33,4 +31,25 @@ pub trait LevelCoder {
     // Reads the `n` levels that `bytes` begin with to the front of `levels`, and answers how many bytes they took.
     fn read(bytes: &[u8], n: usize, b: u32, levels: &mut [u8]) -> Option<usize>
         ensures { Read coding b n bytes.now levels.old levels.new result };
+
+    // The constants are those of the meaning.
+    ghost constants_agree: { (ENCODING ≡ coding.number) × (FRAMED ≡ coding.framed) × (VERSION_2 ≡ coding.second) };
+
+    final fn encoding_number() -> u8
+        ensures { result ≡ coding.number }
+    {
+        Self::ENCODING
+    }
+
+    final fn is_framed() -> bool
+        ensures { result ≡ coding.framed }
+    {
+        Self::FRAMED
+    }
+
+    final fn in_version_2() -> bool
+        ensures { result ≡ coding.second }
+    {
+        Self::VERSION_2
+    }
 }

@@ -1,7 +1,7 @@
 ghost use Rattle.std.specs.Prelude.{◌≡◌, ◌+◌, ◌≤◌};
 ghost use Rattle.level_coder.specs.Widths.{BitLength};
 
-// How many of eight bits stand behind the leading zeros.
+// How many of eight bits stand behind the leading zeros. It stands apart so that a wrong count is refused here, by itself.
 fn bits_behind(zeros: u32) -> u32
     requires { zeros ≤ 8 }
     ensures { zeros + result ≡ 8 }

@@ -1,35 +1,27 @@
--- A value that is repeated: what is counted in it, and a part of it.
-use Rattle.std.proofs.Common.{◌≡◌, ℕ, zero, suc, ◌+◌, ◌-◌, ◌^◌, ◌≤◌, Bool, true, false, cond, eqb, length, take, drop, replicate, ℤ, pos, negsuc, count_by, sym, refl, ap, ◌∙◌, ⊎_elim, arith, w16, SFits, of_z}
+-- A value that is repeated, and a part of it; what is counted by a test of two levels.
+use Rattle.std.proofs.Common.{◌≡◌, ℕ, ◌+◌, ◌-◌, ◌≤◌, cond, List, [], ◌∷◌, length, take, drop, replicate, ℤ, pos, negsuc, count_by, Decides, sym, refl, ap, ◌∙◌, arith}
+use Rattle.std.specs.Ordering.{int_eq}
 use Rattle.std.proofs.lemmas.List.Sums.{sum_by-cons}
 use Rattle.std.proofs.lemmas.List.{take-replicate, drop-replicate, length-replicate}
-use Rattle.std.proofs.lemmas.Bool.{cases_eq, eq-eqb, ne_eqb}
+use Rattle.std.proofs.lemmas.Bool.Decides.{Decides-eqb, Decides-int_eq, Decides-like, same_from_decides}
 use Rattle.level_data.specs.Levels.{same}
 
-pub count_repeated_yes : (p : ℤ → Bool) (n : ℕ) (v : ℤ) → p v ≡ true → count_by p (replicate n v) ≡ n
-count_repeated_yes p zero v h = refl
-count_repeated_yes p (suc n) v h =
-    sum_by-cons (λ x. cond (p x) 1 0) v (replicate n v) ∙ ap (λ b. cond b 1 0 + count_by p (replicate n v)) h ∙ omega (arith, count_repeated_yes p n v h)
-
-pub count_repeated_no : (p : ℤ → Bool) (n : ℕ) (v : ℤ) → p v ≡ false → count_by p (replicate n v) ≡ 0
-count_repeated_no p zero v h = refl
-count_repeated_no p (suc n) v h =
-    sum_by-cons (λ x. cond (p x) 1 0) v (replicate n v) ∙ ap (λ b. cond b 1 0 + count_by p (replicate n v)) h ∙ omega (arith, count_repeated_no p n v h)
-
+-- a part of a repeated value is that value, so often as the part is long
 pub part_repeated : (offset len count : ℕ) (v : ℤ) → offset + len ≤ count → take len (drop offset (replicate count v)) ≡ replicate len v
 part_repeated offset len count v h = ap (take len) (drop-replicate offset count v) ∙ take-replicate len (count - offset) v (omega arith)
 
 pub reaches_repeated : (offset len count : ℕ) (v : ℤ) → offset + len ≤ count → offset + len ≤ length (replicate count v)
 reaches_repeated offset len count v h = omega (arith, length-replicate count v)
 
-pub long_repeated : (offset len count : ℕ) (v : ℤ) → offset + len ≤ length (replicate count v) → offset + len ≤ count
-long_repeated offset len count v h = omega (arith, length-replicate count v)
+same_decides : (a b : ℤ) → Decides (same a b) (b ≡ a)
+same_decides (pos a) (pos b) = Decides-like (same (pos a) (pos b)) (λ e. ap pos (sym e)) (λ e. cc) (Decides-eqb a b)
+same_decides (pos a) (negsuc b) = ((λ e. cc), (λ e. cc))
+same_decides (negsuc a) (pos b) = ((λ e. cc), (λ e. cc))
+same_decides (negsuc a) (negsuc b) = Decides-like (same (negsuc a) (negsuc b)) (λ e. ap negsuc (sym e)) (λ e. cc) (Decides-eqb a b)
 
--- the bits of two levels are the same exactly if the levels are
-pub same_bits : (a b : ℤ) → SFits w16 a → SFits w16 b → eqb (of_z w16 a) (of_z w16 b) ≡ same a b
-same_bits (pos a) (pos b) f g = refl
-same_bits (pos a) (negsuc b) f g = ne_eqb _ _ (λ e. let p = f.sfits in let q = g.sfits in omega arith)
-same_bits (negsuc a) (pos b) f g = ne_eqb _ _ (λ e. let p = f.sfits in let q = g.sfits in omega arith)
-same_bits (negsuc a) (negsuc b) f g =
-    let p = f.sfits in
-    let q = g.sfits in
-    ⊎_elim (λ e. ap (λ n. eqb (2 ^ 16 - suc n) (2 ^ 16 - suc b)) e ∙ eq-eqb _ _ refl ∙ sym (eq-eqb a b e)) (λ ne. ne_eqb _ _ (λ e. ne (omega arith)) ∙ sym (ne_eqb a b ne)) (cases_eq a b)
+pub count-same : (level : ℤ) (ls : List ℤ) → count_by (λ x. int_eq x level) ls ≡ count_by (same level) ls
+count-same level [] = refl
+count-same level (x ∷ ls) =
+    sum_by-cons (λ y. cond (int_eq y level) 1 0) x ls
+    ∙ ap (λ b. cond b 1 0 + count_by (λ y. int_eq y level) ls) (same_from_decides (int_eq x level) (same level x) (Decides-int_eq x level) (same_decides level x))
+    ∙ ap (λ n. cond (same level x) 1 0 + n) (count-same level ls) ∙ sym (sum_by-cons (λ y. cond (same level y) 1 0) x ls)

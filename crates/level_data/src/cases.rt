@@ -7,48 +7,39 @@ fn has(d: LevelDataRef, len: usize, first: Option<i16>, values: usize) -> bool {
 
 // The same of a slice, if there is one.
 fn cut_has(d: LevelDataRef, offset: usize, len: usize, first: Option<i16>, values: usize) -> bool {
-    match d.slice(offset, len) {
-        Some(s) => has(s, len, first, values),
-        None => false,
-    }
-}
-
-fn no_cut(d: LevelDataRef, offset: usize, len: usize) -> bool {
-    d.slice(offset, len).is_none()
-}
-
-fn at(d: LevelDataRef, idx: usize) -> Option<i16> {
-    d.value_at(idx)
-}
-
-fn values(d: LevelDataRef, max_def: i16) -> usize {
-    d.value_count(9, max_def)
+    d.slice(offset, len)
+        .is_some_and(|s| has(s, len, first, values))
 }
 
 #[test]
 fn absent(rt: HostRuntime) {
-    assert!(rt; has(LevelDataRef::absent(), 0, None, 9));
-    assert!(rt; cut_has(LevelDataRef::absent(), 5, 0, None, 9));
+    let d = LevelDataRef::absent();
+    assert!(rt; has(d, 0, None, 9));
+    assert!(rt; cut_has(d, 5, 0, None, 9));
 }
 
 #[test]
 fn materialized(rt: HostRuntime) {
     let d = LevelDataRef::Materialized(&[-1, 1, 0, 1, 1]);
     assert!(rt; has(d, 5, Some(-1), 3));
-    assert!(rt; at(d, 2) == Some(0) && at(d, 4) == Some(1));
-    assert!(rt; values(d, -1) == 1 && values(d, 2) == 0);
+    assert_eq!(rt; d.value_at(2), Some(0));
+    assert_eq!(rt; d.value_at(4), Some(1));
+    assert_eq!(rt; d.value_count(9, -1), 1);
+    assert_eq!(rt; d.value_count(9, 2), 0);
     assert!(rt; cut_has(d, 1, 3, Some(1), 2) && cut_has(d, 5, 0, None, 0));
-    assert!(rt; no_cut(d, 3, 3) && no_cut(d, 6, 0) && no_cut(d, 1, usize::MAX));
+    assert!(rt; d.slice(3, 3).is_none() && d.slice(6, 0).is_none());
+    assert!(rt; d.slice(1, usize::MAX).is_none());
 }
 
 #[test]
 fn uniform(rt: HostRuntime) {
-    assert!(rt; has(LevelDataRef::uniform(1, 3), 3, Some(1), 3));
+    let d = LevelDataRef::uniform(1, 3);
+    assert!(rt; has(d, 3, Some(1), 3));
     assert!(rt; has(LevelDataRef::uniform(-2, 3), 3, Some(-2), 0));
     assert!(rt; has(LevelDataRef::uniform(1, 0), 0, None, 0));
-    assert!(rt; at(LevelDataRef::uniform(1, 3), 2) == Some(1));
-    assert!(rt; cut_has(LevelDataRef::uniform(1, 3), 1, 2, Some(1), 2));
-    assert!(rt; cut_has(LevelDataRef::uniform(1, 3), 3, 0, None, 0));
-    assert!(rt; no_cut(LevelDataRef::uniform(1, 3), 2, 5));
-    assert!(rt; no_cut(LevelDataRef::uniform(1, 3), 2, usize::MAX));
+    assert_eq!(rt; d.value_at(2), Some(1));
+    assert!(rt; cut_has(d, 1, 2, Some(1), 2));
+    assert!(rt; cut_has(d, 3, 0, None, 0));
+    assert!(rt; d.slice(2, 5).is_none());
+    assert!(rt; d.slice(2, usize::MAX).is_none());
 }

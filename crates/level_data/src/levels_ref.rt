@@ -1,9 +1,9 @@
-ghost use Rattle.std.specs.Prelude.{◌≡◌, ◌+◌, ◌≤◌, length, replicate, Some, None, Decides, count_by};
+ghost use Rattle.std.specs.Prelude.{◌≡◌, ◌+◌, ◌<◌, ◌≤◌, length, replicate, Some, None, MatchOption};
 ghost use Rattle.std.specs.List.{slice_get};
-ghost use Rattle.level_data.specs.Levels.{levels_of, listed, same, Sliced, value_count};
+ghost use Rattle.level_data.specs.Levels.{levels_of, listed, Sliced, value_count};
 
-// Borrowed levels. A repeated value stands for the list of that length.
-#[derive(Clone, Copy)]
+// Borrowed levels. A repeated value stands for the list of that length, so there is no `==`, which would tell the two apart.
+#[derive(Clone, Copy, Debug)]
 pub enum LevelDataRef<'a> {
     Absent,
     Materialized(&'a [i16]),
@@ -45,8 +45,8 @@ impl<'a> LevelDataRef<'a> {
     {
         match self {
             Self::Absent => None,
-            Self::Materialized(levels) => level_at(levels, idx),
-            Self::Uniform { value, count } => repeated(value, count, idx),
+            Self::Materialized(levels) => levels.get(idx).copied(),
+            Self::Uniform { value, count } => (idx < count).then_some(value),
         }
     }
 
@@ -55,17 +55,13 @@ impl<'a> LevelDataRef<'a> {
         ensures { Sliced self.entry offset len result }
     {
         match self {
-            Self::Absent => Some(Self::Absent),
+            Self::Absent => Some(self),
             Self::Materialized(levels) => {
-                if !reaches(offset, len, levels.len()) {
-                    return None;
-                }
-                Some(Self::Materialized(&levels[offset..offset + len]))
+                let end = end_of(offset, len, levels.len())?;
+                Some(Self::Materialized(&levels[offset..end]))
             }
             Self::Uniform { value, count } => {
-                if !reaches(offset, len, count) {
-                    return None;
-                }
+                end_of(offset, len, count)?;
                 Some(Self::Uniform { value, count: len })
             }
         }
@@ -77,60 +73,15 @@ impl<'a> LevelDataRef<'a> {
     {
         match self {
             Self::Absent => total,
-            Self::Materialized(levels) => count_of(levels, max_def),
-            Self::Uniform { value, count } => count_repeated(value, count, max_def),
+            Self::Materialized(levels) => levels.iter().filter(|level| **level == max_def).count(),
+            Self::Uniform { value, count } => { if value == max_def { count } else { 0 } }
         }
     }
 }
 
-// What stands at `idx`.
-fn level_at(levels: &[i16], idx: usize) -> Option<i16>
-    ensures { result ≡ slice_get levels.now idx }
+// Where `len` levels behind the first `offset` end, if there are so many among `count`.
+fn end_of(offset: usize, len: usize, count: usize) -> Option<usize>
+    ensures { MatchOption result (count < offset + len) (λ end. (end ≡ offset + len) × (end ≤ count)) }
 {
-    if idx < levels.len() {
-        Some(levels[idx])
-    } else {
-        None
-    }
-}
-
-// What stands at `idx` where `value` stands `count` times.
-fn repeated(value: i16, count: usize, idx: usize) -> Option<i16>
-    ensures { result ≡ slice_get (replicate count value) idx }
-{
-    if idx < count { Some(value) } else { None }
-}
-
-// Whether `len` levels stand behind the first `offset` of `count`.
-fn reaches(offset: usize, len: usize, count: usize) -> bool
-    ensures { Decides result (offset + len ≤ count) }
-{
-    offset <= count && len <= count - offset
-}
-
-// Whether two levels are the same.
-fn is_same(a: i16, b: i16) -> bool
-    ensures { result ≡ same a b }
-{
-    a == b
-}
-
-// How many levels are `level`.
-fn count_of(levels: &[i16], level: i16) -> usize
-    ensures { result ≡ count_by (same level) levels.now }
-{
-    let mut n = 0;
-    for x in levels {
-        if is_same(level, *x) {
-            n += 1;
-        }
-    }
-    n
-}
-
-// The same where `value` stands `count` times.
-fn count_repeated(value: i16, count: usize, level: i16) -> usize
-    ensures { result ≡ count_by (same level) (replicate count value) }
-{
-    if is_same(level, value) { count } else { 0 }
+    offset.checked_add(len).filter(|end| *end <= count)
 }

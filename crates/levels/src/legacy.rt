@@ -1,9 +1,11 @@
-ghost use Rattle.std.specs.Prelude.{◌≡◌, ◌+◌, ◌*◌, ◌≤◌};
+ghost use Rattle.std.specs.Prelude.{◌≡◌, refl, ◌*◌, []};
 ghost use Rattle.levels.specs.Coders.{legacy_coding};
 ghost use Rattle.levels.specs.Formats.{bytes_for};
+ghost use Rattle.levels.specs.Layouts.{LaidOut};
 ghost use Rattle.levels.specs.Lists.{Limits};
 
-use crate::list::{admits, read_list, write_list};
+use crate::header::Header;
+use crate::list::{LevelList, admits};
 use bits::BitOrder;
 use level_coder::LevelCoder;
 
@@ -15,7 +17,22 @@ fn byte_count(n: usize, b: u32) -> usize
     requires { Limits n b }
     ensures { result ≡ bytes_for (n * b) }
 {
-    (n * b as usize + 7) / 8
+    (n * b as usize).div_ceil(8)
+}
+
+// The list of `n` levels of `b` bits: its bytes, and no header.
+fn list_of(n: usize, b: u32) -> Option<LevelList>
+    ensures { LaidOut [] (bytes_for (n * b)) n b result }
+{
+    if !admits(n, b) {
+        return None;
+    }
+    Some(LevelList {
+        header: Header::none(),
+        n,
+        b,
+        len: byte_count(n, b),
+    })
 }
 
 impl LevelCoder for Legacy {
@@ -27,38 +44,23 @@ impl LevelCoder for Legacy {
 
     const VERSION_2: bool = false;
 
-    fn encoding_number() -> u8 {
-        Self::ENCODING
-    }
+    ghost ENCODING = { legacy_coding.number };
 
-    fn is_framed() -> bool {
-        Self::FRAMED
-    }
+    ghost FRAMED = { legacy_coding.framed };
 
-    fn in_version_2() -> bool {
-        Self::VERSION_2
-    }
+    ghost VERSION_2 = { legacy_coding.second };
+
+    ghost constants_agree = { (refl, refl, refl) };
 
     fn size(n: usize, b: u32) -> Option<usize> {
-        if !admits(n, b) {
-            return None;
-        }
-        Some(byte_count(n, b))
+        Some(list_of(n, b)?.size())
     }
 
     fn code(levels: &[u8], b: u32, out: &mut [u8]) -> Option<usize> {
-        if !admits(levels.len(), b) {
-            return None;
-        }
-        let k = byte_count(levels.len(), b);
-        write_list(BitOrder::MostFirst, &[], levels, b, k, out)
+        list_of(levels.len(), b)?.write(BitOrder::MostFirst, levels, out)
     }
 
     fn read(bytes: &[u8], n: usize, b: u32, levels: &mut [u8]) -> Option<usize> {
-        if !admits(n, b) {
-            return None;
-        }
-        let k = byte_count(n, b);
-        read_list(BitOrder::MostFirst, &[], bytes, n, b, k, levels)
+        list_of(n, b)?.read(BitOrder::MostFirst, bytes, levels)
     }
 }

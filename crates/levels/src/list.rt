@@ -1,66 +1,67 @@
-ghost use Rattle.std.specs.Prelude.{◌≡◌, ◌+◌, ◌≤◌, length, Decides};
-ghost use Rattle.bits.specs.Packing.{Room};
+ghost use Rattle.std.specs.Prelude.{◌≡◌, ◌+◌, ◌*◌, ◌≤◌, length, Decides};
+ghost use Rattle.bits.specs.Packing.{groups};
 ghost use Rattle.levels.specs.Lists.{Limits, Wrote, Took};
 
+use crate::header::Header;
 use bits::BitOrder;
 
-// Whether a coder takes `n` levels of `b` bits.
+// Whether a coder takes `n` levels of `b` bits. A test, and not an Option: the list that is built behind it needs the fact.
 pub(crate) fn admits(n: usize, b: u32) -> bool
     ensures { Decides result (Limits n b) }
 {
     n <= 1024 && b <= 4
 }
 
-// Writes `front` and `k` bytes of levels to the front of `out`, and answers how many bytes these are.
-pub(crate) fn write_list(
-    order: BitOrder,
-    front: &[u8],
-    levels: &[u8],
-    b: u32,
-    k: usize,
-    out: &mut [u8],
-) -> Option<usize>
-    requires { Room (length levels.now) b k }
-    ensures { Wrote order front.now k b levels.now out.old out.new result }
-{
-    let at = front.len();
-    let size = at + k;
-    if out.len() < size {
-        return None;
-    }
-    if !bits::pack(order, levels, b, &mut out[at..size]) {
-        return None;
-    }
-    out[0..at].copy_from_slice(front);
-    Some(size)
+// Where `n` levels of `b` bits stand: behind a header, in `len` bytes.
+#[derive(Drop)]
+pub(crate) struct LevelList {
+    pub(crate) header: Header,
+    pub(crate) n: usize,
+    pub(crate) b: u32,
+    pub(crate) len: usize,
+    ghost few: { n ≤ 1024 },
+    ghost narrow: { b ≤ 4 },
+    ghost holds: { n * b ≤ 8 * len },
+    ghost grouped: { len ≤ groups n * b },
+    ghost short: { length header ≤ 2 },
 }
 
-// Reads the `n` levels that stand in `k` bytes behind `front`, and answers how many bytes these are with it.
-pub(crate) fn read_list(
-    order: BitOrder,
-    front: &[u8],
-    bytes: &[u8],
-    n: usize,
-    b: u32,
-    k: usize,
-    levels: &mut [u8],
-) -> Option<usize>
-    requires { Room n b k }
-    ensures { Took order front.now k b n bytes.now levels.old levels.new result }
-{
-    let at = front.len();
-    let size = at + k;
-    if bytes.len() < size {
-        return None;
+impl LevelList {
+    // How many bytes the header and the levels take.
+    pub(crate) fn size(&self) -> usize
+        ensures { result ≡ length self.now.header + self.now.len }
+    {
+        self.header.as_slice().len() + self.len
     }
-    if levels.len() < n {
-        return None;
+
+    // Writes the header and the levels to the front of `out`, and answers how many bytes these are.
+    pub(crate) fn write(&self, order: BitOrder, levels: &[u8], out: &mut [u8]) -> Option<usize>
+        requires { length levels.now ≡ self.now.n }
+        ensures { Wrote order self.now.header self.now.len self.now.b levels.now out.old out.new result }
+    {
+        let front = self.header.as_slice();
+        let at = front.len();
+        let size = at + self.len;
+        // A test and a range: behind `get_mut` the proof knows no byte of the list.
+        if out.len() < size {
+            return None;
+        }
+        bits::pack(order, levels, self.b, &mut out[at..size])?;
+        out[..at].copy_from_slice(front);
+        Some(size)
     }
-    if !bytes.starts_with(front) {
-        return None;
+
+    // Reads the levels that stand behind the header to the front of `levels`, and answers how many bytes these are with it.
+    pub(crate) fn read(&self, order: BitOrder, bytes: &[u8], levels: &mut [u8]) -> Option<usize>
+        ensures { Took order self.now.header self.now.len self.now.b self.now.n bytes.now levels.old levels.new result }
+    {
+        let behind = bytes.strip_prefix(self.header.as_slice())?;
+        let body = behind.get(..self.len)?;
+        // Likewise.
+        if levels.len() < self.n {
+            return None;
+        }
+        bits::unpack(order, body, self.b, &mut levels[..self.n])?;
+        Some(self.size())
     }
-    if !bits::unpack(order, &bytes[at..size], b, &mut levels[0..n]) {
-        return None;
-    }
-    Some(size)
 }

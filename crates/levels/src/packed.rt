@@ -1,22 +1,30 @@
-ghost use Rattle.std.specs.Prelude.{◌≡◌, ◌+◌, ◌*◌};
+ghost use Rattle.std.specs.Prelude.{◌≡◌, refl, ◌*◌};
 ghost use Rattle.bits.specs.Packing.{groups};
 ghost use Rattle.levels.specs.Coders.{packed_coding};
-ghost use Rattle.levels.specs.Lists.{Limits};
+ghost use Rattle.levels.specs.Formats.{header};
+ghost use Rattle.levels.specs.Layouts.{LaidOut};
 
-use crate::header::{group_count, header_of};
-use crate::list::{admits, read_list, write_list};
+use crate::header::Header;
+use crate::list::{LevelList, admits};
 use bits::BitOrder;
 use level_coder::LevelCoder;
 
 // The format's RLE, as one bit-packed run. Version 1 puts a length before it.
 pub struct Packed;
 
-// How many bytes the groups of `n` levels of `b` bits take.
-fn groups_len(n: usize, b: u32) -> usize
-    requires { Limits n b }
-    ensures { result ≡ groups n * b }
+// The list of `n` levels of `b` bits: its header, and the groups of eight that hold them.
+fn list_of(n: usize, b: u32) -> Option<LevelList>
+    ensures { LaidOut (header n) (groups n * b) n b result }
 {
-    group_count(n) * b as usize
+    if !admits(n, b) {
+        return None;
+    }
+    Some(LevelList {
+        header: Header::of(n),
+        n,
+        b,
+        len: n.div_ceil(8) * b as usize,
+    })
 }
 
 impl LevelCoder for Packed {
@@ -28,43 +36,23 @@ impl LevelCoder for Packed {
 
     const VERSION_2: bool = true;
 
-    fn encoding_number() -> u8 {
-        Self::ENCODING
-    }
+    ghost ENCODING = { packed_coding.number };
 
-    fn is_framed() -> bool {
-        Self::FRAMED
-    }
+    ghost FRAMED = { packed_coding.framed };
 
-    fn in_version_2() -> bool {
-        Self::VERSION_2
-    }
+    ghost VERSION_2 = { packed_coding.second };
+
+    ghost constants_agree = { (refl, refl, refl) };
 
     fn size(n: usize, b: u32) -> Option<usize> {
-        if !admits(n, b) {
-            return None;
-        }
-        Some(header_of(n).len + groups_len(n, b))
+        Some(list_of(n, b)?.size())
     }
 
     fn code(levels: &[u8], b: u32, out: &mut [u8]) -> Option<usize> {
-        let n = levels.len();
-        if !admits(n, b) {
-            return None;
-        }
-        let header = header_of(n);
-        let front = &header.bytes[0..header.len];
-        let k = groups_len(n, b);
-        write_list(BitOrder::LeastFirst, front, levels, b, k, out)
+        list_of(levels.len(), b)?.write(BitOrder::LeastFirst, levels, out)
     }
 
     fn read(bytes: &[u8], n: usize, b: u32, levels: &mut [u8]) -> Option<usize> {
-        if !admits(n, b) {
-            return None;
-        }
-        let header = header_of(n);
-        let front = &header.bytes[0..header.len];
-        let k = groups_len(n, b);
-        read_list(BitOrder::LeastFirst, front, bytes, n, b, k, levels)
+        list_of(n, b)?.read(BitOrder::LeastFirst, bytes, levels)
     }
 }

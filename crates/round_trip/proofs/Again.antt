@@ -1,7 +1,7 @@
 -- Both trips from the two calls' contracts: what was written is what reading finds.
-use Rattle.std.proofs.Common.{◌≡◌, ℕ, ◌-◌, ◌≤◌, true, List, ◌++◌, length, take, drop, Some, None, Option, sym, refl, ap, ◌∙◌, subst, arith}
+use Rattle.std.proofs.Common.{◌≡◌, ℕ, ◌-◌, true, List, ◌++◌, length, take, drop, Some, None, Option, sym, ap, ◌∙◌, subst, arith}
 use Rattle.std.proofs.lemmas.List.{take_at}
-use Rattle.level_coder.specs.Coding.{Coding, Admitted, Begins, Coded, Read}
+use Rattle.level_coder.specs.Coding.{Coding, Coded, Read}
 use Rattle.level_coder.proofs.Trips.{begins_coded, read_coded}
 use Rattle.body_coder.specs.Body.{Body, whole, Wrote}
 use Rattle.round_trip.specs.Trips.{LevelsAgain, BodyAgain}

@@ -11,8 +11,6 @@ pub fn body_again<B: BodyCoder>(
 ) -> Option<usize>
     ensures { BodyAgain B.BodyCoder.body k plain.now coded.old coded.new back.old back.new result }
 {
-    match B::code(k, plain, coded) {
-        Some(len) => B::read(k, &coded[0..len], back),
-        None => None,
-    }
+    let len = B::code(k, plain, coded)?;
+    B::read(k, &coded[..len], back)
 }

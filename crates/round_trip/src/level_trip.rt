@@ -3,6 +3,7 @@ ghost use Rattle.round_trip.specs.Trips.{LevelsAgain};
 use level_coder::LevelCoder;
 
 // Codes the levels into `bytes`, and reads them back from there.
+#[tactic(auto, using(crate::proofs::Again::levels_trip))]
 pub fn levels_again<C: LevelCoder>(
     levels: &[u8],
     b: u32,
@@ -11,8 +12,6 @@ pub fn levels_again<C: LevelCoder>(
 ) -> Option<usize>
     ensures { LevelsAgain C.LevelCoder.coding b levels.now bytes.old bytes.new back.old back.new result }
 {
-    match C::code(levels, b, bytes) {
-        Some(_) => C::read(bytes, levels.len(), b, back),
-        None => None,
-    }
+    C::code(levels, b, bytes)?;
+    C::read(bytes, levels.len(), b, back)
 }

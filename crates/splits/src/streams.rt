@@ -1,20 +1,15 @@
-ghost use Rattle.std.specs.Prelude.{◌≡◌, ◌+◌, ◌*◌, ◌^◌, ◌<◌, ◌≤◌, ◌++◌, length, drop};
-ghost use Rattle.splits.specs.Streams.{streams, Scattered, EachPlace, InPlace};
+ghost use Rattle.std.specs.Prelude.{◌≡◌, ◌*◌, ◌<◌, ◌≤◌, ◌++◌, length, drop};
+ghost use Rattle.splits.specs.Streams.{stream, streams, Scattered, EachPlace, InPlace};
 
-// Where byte `j` of value `i` stands in streams of `n` bytes.
-fn stream_place(i: usize, j: usize, n: usize) -> usize
-    requires { j * n + i < 2 ^ 64 }
-    ensures { result ≡ j * n + i }
+// Writes byte `j` of each value of `k` bytes into all of `out`.
+fn write_stream(values: &[u8], j: usize, k: usize, out: &mut [u8])
+    requires there { length out.old * k ≤ length values.now }
+    requires one { j < k }
+    ensures { out.new ≡ stream (length out.old) k values.now j }
 {
-    j * n + i
-}
-
-// Where it stands in values of `k` bytes.
-fn value_place(i: usize, j: usize, k: usize) -> usize
-    requires { i * k + j < 2 ^ 64 }
-    ensures { result ≡ i * k + j }
-{
-    i * k + j
+    for (i, byte) in out.iter_mut().enumerate() {
+        *byte = values[i * k + j];
+    }
 }
 
 // Writes `n` values of `k` bytes as `k` streams of `n` bytes.
@@ -24,12 +19,9 @@ fn write_streams(values: &[u8], n: usize, k: usize, out: &mut [u8])
     ensures whole { out.new ≡ streams n k values.now ++ drop (n * k) out.old }
     ensures places { EachPlace n k values.now out.new }
 {
+    // By ranges: behind `chunks_exact_mut` the proof knows no byte of `out`.
     for j in 0..k {
-        for i in 0..n {
-            let from = value_place(i, j, k);
-            let to = stream_place(i, j, n);
-            out[to] = values[from];
-        }
+        write_stream(values, j, k, &mut out[j * n..(j + 1) * n]);
     }
 }
 
@@ -38,15 +30,9 @@ pub fn scatter(values: &[u8], n: usize, k: usize, out: &mut [u8]) -> Option<usiz
     ensures whole { Scattered n k values.now out.old out.new result }
     ensures places { InPlace n k values.now out.new result }
 {
-    let Some(size) = n.checked_mul(k) else {
-        return None;
-    };
-    if values.len() < size {
-        return None;
-    }
-    if out.len() < size {
-        return None;
-    }
+    let size = n
+        .checked_mul(k)
+        .filter(|size| *size <= values.len() && *size <= out.len())?;
     write_streams(values, n, k, out);
     Some(size)
 }

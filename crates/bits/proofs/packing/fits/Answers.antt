@@ -1,19 +1,19 @@
-use Rattle.std.proofs.Common.{◌≡◌, ℕ, ◌^◌, ◌<◌, refl, subst, arith}
-use Rattle.std.proofs.ByRecursion.{All-get_or, All-more}
-use Rattle.std.proofs.lemmas.List.{take_all}
-use Rattle.bits.specs.Rows.{Fit}
-use Rattle.bits.proofs.Words.{under, over}
+use Rattle.std.proofs.Common.{ℕ, ◌/◌, ◌^◌, ◌<◌, Bool, eqb, Decides, refl, rules, tests, arith}
+use Rattle.std.specs.List.{list_all}
+use Rattle.std.proofs.ByRecursion.{Decides-by_and}
+use Rattle.std.proofs.lemmas.Bool.Decides.{Decides-at, Decides-like, Decides-eqb}
+use Rattle.std.proofs.lemmas.Iterator.{YieldsList-from_slice}
+use Rattle.std.proofs.lemmas.Iterator.Search.{all_from_yields_List}
+use Rattle.std.proofs.lemmas.Nat.{shr_below}
+use Rattle.bits.proofs.Words.{under}
 use Rattle.bits.proofs.packing.fits.Goals as goal
 
-pub returns-then-number-b-gt0 : goal.returns-then-number-b-gt0
-returns-then-number-b-gt0 c = (
-  (λ e. let z : ◌≡◌ {A = ℕ} 0 1 = cc in absurd (omega arith)),
-  (λ f. absurd (over _ _ c.if-number-b-gt0.true (All-get_or (λ l. l < 2 ^ c.args.b) c.args.numbers.now c.loop-number.number-index 0 (omega arith) f))),
-)
-
-pub loop-number-preserved : goal.loop-number-preserved
-loop-number-preserved c =
-    All-more (λ l. l < 2 ^ c.args.b) c.args.numbers.now c.loop-number.number-index 0 (omega arith) c.loop-number.invariant (under _ _ c.if-number-b-gt0.false)
+-- a number of at most b bits has none left behind them
+none_left : (b n : ℕ) → Decides (eqb (n / 2 ^ b) 0) (n < 2 ^ b)
+none_left b n = Decides-like _ (λ e. under n b (omega arith)) (λ h. let l = shr_below n 0 b (grind arith) in omega arith) (Decides-eqb (n / 2 ^ b) 0)
 
 pub returns : goal.returns
-returns c = ((λ _. subst (Fit c.args.b) (take_all c.loop-number.number-index c.args.numbers.now (omega arith)) c.loop-number.invariant), (λ _. refl))
+returns c =
+    let test : ℕ → Bool = λ n. eqb (n / 2 ^ c.args.b) 0 in
+    Decides-at _ _ (all_from_yields_List test _ _ _ c.all.ensures.ran (YieldsList-from_slice c.args.numbers.now cc) (λ x b q k. search (rules, tests)))
+    (Decides-by_and test (λ n. n < 2 ^ c.args.b) (list_all test) (none_left c.args.b) refl (λ _ _. refl) c.args.numbers.now)
