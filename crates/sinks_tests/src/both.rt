@@ -3,7 +3,7 @@ use sinks::{PageSink, PageStore, SinkFault};
 use std::process::Abort;
 
 pub(crate) fn holds(rt: &impl Abort, bytes: &[u8], wanted: &[u8]) {
-    assert!(rt; bytes == wanted);
+    assert_eq!(rt; bytes, wanted);
 }
 
 // Takes nothing, and has nothing.

@@ -1,7 +1,7 @@
 -- A slotted sink with one more page: what lies behind the pages and before the pairs is all that its area changes.
-use Rattle.std.proofs.Common.{◌≡◌, ℕ, zero, suc, ◌+◌, ◌-◌, ◌*◌, ◌/◌, ◌%◌, ◌<◌, ◌≤◌, true, leb, List, [], ◌∷◌, ◌++◌, map, length, get_or, take, drop, sym, refl, ap, ◌∙◌, subst, arith}
+use Rattle.std.proofs.Common.{◌≡◌, ℕ, ◌+◌, ◌-◌, ◌*◌, ◌/◌, ◌%◌, ◌<◌, ◌≤◌, true, leb, List, [], ◌∷◌, ◌++◌, map, length, get_or, take, drop, sym, refl, ap, ◌∙◌, subst, arith}
 use Rattle.std.specs.List.{range_with_len}
-use Rattle.std.proofs.lemmas.List.FromFn.{map-range_with_len_more}
+use Rattle.std.proofs.lemmas.List.FromFn.{fill_by_all, length-map-range_with_len, get_or-map-range_with_len, map-range_with_len_more}
 use Rattle.std.proofs.lemmas.List.{get_or-drop, get_or-take, map_push, take-take}
 use Rattle.std.proofs.lemmas.Bool.{and_parts, leb-true}
 use Rattle.sinks.specs.Sinks.{Grown}
@@ -29,10 +29,6 @@ get_or-same : (a b : List ℕ) (n k : ℕ) → drop n a ≡ drop n b → n ≤ k
 get_or-same a b n k same le =
     let e : n + (k - n) ≡ k = omega arith in
     ap (λ i. get_or a i 0) (sym e) ∙ sym (get_or-drop n a (k - n) 0) ∙ ap (λ q. get_or q (k - n) 0) same ∙ get_or-drop n b (k - n) 0 ∙ ap (λ i. get_or b i 0) e
-
-map_counting_same : (f g : ℕ → Place) (a n : ℕ) → ((i : ℕ) → i < a + n → f i ≡ g i) → map f (range_with_len a n) ≡ map g (range_with_len a n)
-map_counting_same f g a zero same = refl
-map_counting_same f g a (suc n) same = ap (λ q. q ∷ map f (range_with_len (a + 1) n)) (same a (omega arith)) ∙ ap (λ q. g a ∷ q) (map_counting_same f g (a + 1) n (λ i lt. same i (omega arith)))
 
 abbrev place : ℕ → ℕ → Place
 place o l = record { offset = o; len = l }
@@ -82,7 +78,7 @@ module _ (a page b a' : List ℕ) (at n : ℕ) (fits : at + 4 * n + (length page
   number_same : (k : ℕ) → length a - 4 * n ≤ k → le16 a' k ≡ le16 a k
   number_same k le = ap (λ x. x + get_or a' (k + 1) 0 * 256) (byte_same k le) ∙ ap (λ x. get_or a k 0 + x * 256) (byte_same (k + 1) (omega arith))
 
-  pair_same : (i : ℕ) → i < 0 + n → pair_at a' i ≡ pair_at a i
+  pair_same : (i : ℕ) → i < n → pair_at a' i ≡ pair_at a i
   pair_same i lt =
       let k = length a - 4 * (i + 1) in
       let low : length a - 4 * n ≤ k = omega arith in
@@ -113,7 +109,7 @@ module _ (a page b a' : List ℕ) (at n : ℕ) (fits : at + 4 * n + (length page
   pairs_after =
       map-range_with_len_more (pair_at a') 0 n n (omega arith)
       ∙ ap (λ q. map (pair_at a') (range_with_len 0 n) ++ (q ∷ [])) pair_new
-      ∙ ap (λ q. q ++ (record { offset = at; len = length page } ∷ [])) (map_counting_same (pair_at a') (pair_at a) 0 n pair_same)
+      ∙ ap (λ q. q ++ (record { offset = at; len = length page } ∷ [])) (fill_by_all (pair_at a) (map (pair_at a') (range_with_len 0 n)) n (place 0 0) (length-map-range_with_len (pair_at a') 0 n) (λ k lt. get_or-map-range_with_len (pair_at a') 0 n k k (place 0 0) lt (omega arith) ∙ pair_same k lt))
 
 pub grown : (s s' : SlottedSink) (page b : List ℕ) (at : ℕ) → fits_in s (length page) ≡ true → at ≡ end_in s
     → b ≡ laid s.area.now at page → s'.area.now ≡ laid b (length b - 4 * (s.count + 1)) (pair_bytes at (length page)) → s'.count ≡ s.count + 1

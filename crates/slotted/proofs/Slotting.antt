@@ -5,7 +5,7 @@ use Rattle.std.specs.Option.{option_map_or}
 use Rattle.std.proofs.lemmas.List.{length-map}
 use Rattle.std.proofs.lemmas.List.FromFn.{length-map-range_with_len, get_or-map-range_with_len}
 use Rattle.std.proofs.lemmas.Option.{slice_get-get_or, slice_get_past}
-use Rattle.areas.specs.Areas.{part, end_of}
+use Rattle.areas.specs.Areas.{part}
 use Rattle.areas.proofs.Tiling.{end_last}
 use Rattle.areas.specs.declared.place.Place.{Place}
 use Rattle.slotted.specs.Slots.{pair_at, pairs, places, end_in, slotted_store}

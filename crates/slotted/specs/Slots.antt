@@ -1,5 +1,5 @@
 -- The layout of a slotted sink, from docs/sinks.md.
-use Rattle.std.specs.Prelude.{◌≡◌, ℕ, ◌+◌, ◌-◌, ◌*◌, ◌/◌, ◌%◌, ◌≤◌, min, Bool, ◌&&◌, List, [], ◌∷◌, map, length, nat_le, slice_index}
+use Rattle.std.specs.Prelude.{◌≡◌, ℕ, ◌+◌, ◌-◌, ◌*◌, ◌/◌, ◌%◌, ◌≤◌, Bool, ◌&&◌, List, [], ◌∷◌, map, length, nat_le, slice_index}
 use Rattle.std.specs.List.{range_with_len}
 use Rattle.sinks.specs.Sinks.{SinkMeaning}
 use Rattle.sinks.specs.Stores.{StoreMeaning}
