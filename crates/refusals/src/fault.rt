@@ -75,7 +75,10 @@ impl fmt::Display for ChunkFault {
             ChunkFault::Settings => write!(f, "a setting or a coder is not allowed"),
             ChunkFault::BatchLevels => write!(f, "the batch has too many levels"),
             ChunkFault::LevelsAbsent => write!(f, "levels that are needed are absent"),
-            ChunkFault::LevelCount => write!(f, "a list of levels has another count than the batch"),
+            ChunkFault::LevelCount => write!(
+                f,
+                "a list of levels has another count than the batch"
+            ),
             ChunkFault::LevelRange(at) => write!(f, "the level at {at} is out of range"),
             ChunkFault::FirstRepetition => write!(f, "the first repetition level is not 0"),
             ChunkFault::FewValues => write!(f, "there are fewer values than needed"),
