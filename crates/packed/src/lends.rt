@@ -40,6 +40,7 @@ impl<'a> PackedSink<'a> {
     }
 
     // PAR1 and behind it the pages, as they stand in the area.
+    #[tactic(auto, using(crate::proofs::Growing::image_whole))]
     pub fn image(&self) -> &[u8]
         ensures { Imaged self.now result.now }
     {

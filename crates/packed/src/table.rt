@@ -18,6 +18,7 @@ pub(crate) fn enter(table: &mut [Place], count: usize, at: usize, len: usize)
     requires small { at + len ≤ 65535 }
     ensures { table.new ≡ set table.old count (record { offset = at; len = len }) }
 {
+    // Both fit 32 bits, as `small` says, so `as` loses nothing.
     table[count] = Place {
         offset: at as u32,
         len: len as u32,

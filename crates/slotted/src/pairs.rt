@@ -36,6 +36,7 @@ pub(crate) fn enter(area: &mut [u8], i: usize, offset: usize, len: usize)
     ensures { area.new ≡ laid area.old (length area.old - 4 * (i + 1)) (pair_bytes offset len) }
 {
     let at = slot(area.len(), i);
+    // Both fit 16 bits, as `small` says, so `as` loses nothing.
     lay(area, at, &coded(offset as u16, len as u16));
 }
 
