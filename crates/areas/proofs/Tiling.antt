@@ -1,6 +1,8 @@
 -- Pages that lie one behind the other: what is laid behind them leaves them as they were.
-use Rattle.std.proofs.Common.{◌≡◌, ℕ, zero, suc, ◌+◌, ◌<◌, ◌≤◌, List, [], ◌∷◌, ◌++◌, map, length, get_or, take, drop, sym, refl, ap, ◌∙◌, arith}
-use Rattle.std.specs.List.{flat_map}
+use Rattle.std.proofs.Common.{◌≡◌, ℕ, zero, suc, ◌+◌, ◌-◌, ◌<◌, ◌≤◌, List, [], ◌∷◌, ◌++◌, map, length, get_or, Some, Option, take, drop, sym, refl, ap, ◌∙◌, arith}
+use Rattle.std.specs.List.{flat_map, slice_get}
+use Rattle.std.specs.Option.{option_map_or}
+use Rattle.std.proofs.lemmas.Option.{slice_get-get_or}
 use Rattle.std.specs.List.Sorted.{IsNonDecreasingBy}
 use Rattle.std.proofs.lemmas.List.{take-take, map_push, append_assoc, append-nil, take-append-drop, drop-take}
 use Rattle.areas.specs.Areas.{part, Tiles, end_of}
@@ -9,6 +11,21 @@ use Rattle.areas.specs.declared.place.Place.{Place}
 pub end_push : (from : ℕ) (ps : List Place) (q : Place) → end_of from (ps ++ (q ∷ [])) ≡ q.offset + q.len
 end_push from [] q = refl
 end_push from (p ∷ ps) q = end_push (p.offset + p.len) ps q
+
+-- the end is that of the last place
+pub end_last : (from : ℕ) (ps : List Place) → end_of from ps ≡ option_map_or (λ (p : Place). p.offset + p.len) (slice_get ps (length ps - 1)) from
+end_last from [] = refl
+end_last from (p ∷ []) = refl
+end_last from (p ∷ q ∷ ps) =
+    let e = p.offset + p.len in
+    let last : slice_get (q ∷ ps) (length ps) ≡ Some (get_or (q ∷ ps) (length ps) p) = slice_get-get_or (q ∷ ps) (length ps) p (omega arith) in
+    let one : suc (length ps) - 1 ≡ length ps = omega arith in
+    let two : suc (suc (length ps)) - 1 ≡ suc (length ps) = omega arith in
+    end_last e (q ∷ ps) ∙ ap (λ k. end_in (slice_get (q ∷ ps) k) e) one ∙ ap (λ o. end_in o e) last
+    ∙ sym (ap (λ k. end_in (slice_get (p ∷ q ∷ ps) k) from) two ∙ ap (λ o. end_in o from) last)
+  where
+    end_in : Option Place → ℕ → ℕ
+    end_in o d = option_map_or (λ (p : Place). p.offset + p.len) o d
 
 pub tiles_push : (from : ℕ) (ps : List Place) (q : Place) → Tiles from ps → q.offset ≡ end_of from ps → Tiles from (ps ++ (q ∷ []))
 tiles_push from [] q t e = (e, tt)

@@ -1,4 +1,4 @@
-ghost use Rattle.std.specs.Prelude.{◌≡◌, ◌+◌, ◌≤◌, length, nat_le};
+ghost use Rattle.std.specs.Prelude.{◌≡◌, ◌+◌, length, nat_le};
 ghost use Rattle.areas.specs.Areas.{allowed, Checked, laid};
 
 use sinks::SinkFault;
@@ -7,7 +7,7 @@ use sinks::SinkFault;
 pub fn allowed_area(size: usize) -> bool
     ensures { result ≡ allowed size }
 {
-    size >= 4 && size <= 65535
+    (4..=65535).contains(&size)
 }
 
 // A sink's own check of its area.
@@ -25,14 +25,7 @@ pub fn check_area(size: usize) -> Result<(), SinkFault>
 pub fn fits(used: usize, len: usize, size: usize) -> bool
     ensures { result ≡ nat_le (used + len) size }
 {
-    used <= size && len <= size - used
-}
-
-fn put(area: &mut [u8], at: usize, bytes: &[u8])
-    requires { at + length bytes.now ≤ length area.old }
-    ensures { area.new ≡ laid area.old at bytes.now }
-{
-    area[at..at + bytes.len()].copy_from_slice(bytes);
+    size.checked_sub(used).is_some_and(|left| len <= left)
 }
 
 // Writes `bytes` over those at `at`, where they fit.
@@ -40,6 +33,6 @@ pub fn lay(area: &mut [u8], at: usize, bytes: &[u8])
     ensures { area.new ≡ laid area.old at bytes.now }
 {
     if fits(at, bytes.len(), area.len()) {
-        put(area, at, bytes);
+        area[at..at + bytes.len()].copy_from_slice(bytes);
     }
 }

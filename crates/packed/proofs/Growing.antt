@@ -1,7 +1,7 @@
 -- A packed sink with one more page: what its table and its area then hold.
-use Rattle.std.proofs.Common.{◌≡◌, ℕ, ◌+◌, ◌-◌, ◌≤◌, min, true, ltb, List, [], ◌∷◌, ◌++◌, map, length, take, set, sym, ap, ◌∙◌, subst, arith}
+use Rattle.std.proofs.Common.{◌≡◌, ℕ, ◌+◌, ◌≤◌, min, true, ltb, List, [], ◌∷◌, ◌++◌, map, length, take, set, sym, ap, ◌∙◌, subst, arith}
 use Rattle.std.specs.List.{flat_map}
-use Rattle.std.proofs.lemmas.List.{length-set, map_push, take_more_set, take-take}
+use Rattle.std.proofs.lemmas.List.{map_push, take_more_set, take-take}
 use Rattle.std.proofs.lemmas.Bool.{and_parts, both_ways, ltb-true, leb-true}
 use Rattle.sinks.specs.Sinks.{Grown}
 use Rattle.areas.specs.Areas.{part, laid, Tiles, end_of}
@@ -33,7 +33,6 @@ grown s s' page at takes begin table area count sd =
       pages = ap (map (part a')) more ∙ pages-more a a' 4 (places s) q page sd.tiled (subst (λ k. take k a' ≡ take k a) begin same) (ap (part' q) area ∙ middle_laid a at page room);
       offsets = ap (map offset') more ∙ map_push offset' (places s) q;
       sound = record {
-        few = omega (arith, ap length table ∙ length-set s.table.now s.count q);
         tiled = tiled;
         sorted = rises_from_tiles 4 (places s') tiled;
         begins = λ _. sym (take-take 4 at a' (omega arith)) ∙ ap (take 4) same ∙ take-take 4 at a (omega arith) ∙ sd.begins test.0;
@@ -47,12 +46,12 @@ grown s s' page at takes begin table area count sd =
     offset' : Place → ℕ
     offset' p = p.offset
 
-pub image_whole : (s : PackedSink) (n : ℕ) → n ≡ min (end_in s) (length s.area.now) → usable s ≡ true → Imaged s (take (n - 0) s.area.now)
+pub image_whole : (s : PackedSink) (n : ℕ) → n ≡ min (end_in s) (length s.area.now) → usable s ≡ true → Imaged s (take n s.area.now)
 image_whole s n e u =
     let a = s.area.now in
     record {
       whole = λ sd _.
-          let all : n - 0 ≡ end_in s = omega (arith, sd.within u) in
+          let all : n ≡ end_in s = omega (arith, sd.within u) in
           ap (λ k. take k a) all ∙ tiles_image a 4 (places s) sd.tiled ∙ ap (λ q. q ++ flat_map (λ b. b) (packed_store.pages s)) (sd.begins u);
       none = λ no. absurd (both_ways (usable s) no u);
     }

@@ -1,2 +1,1 @@
-mod Tables
 mod Growing

@@ -34,7 +34,6 @@ packed_store = store_of (λ s. s.area.now) places
 
 -- a well-formed packed sink: places in the table, without gaps and sorted, and within an area that begins with PAR1
 pub record Sound (s : PackedSink) : Type 0 where
-  pub few : s.count ≤ length s.table.now
   pub tiled : Tiles 4 (places s)
   pub sorted : IsNonDecreasingBy (λ p. p.offset) (places s)
   pub begins : usable s ≡ true → take 4 s.area.now ≡ magic

@@ -40,14 +40,15 @@ impl<'a> PackedSink<'a> {
     }
 
     // PAR1 and behind it the pages, as they stand in the area.
+    #[tactic(auto, using(crate::proofs::Growing::image_whole))]
     pub fn image(&self) -> &[u8]
         ensures { Imaged self.now result.now }
     {
         if !allowed_area(self.area.len()) {
-            return &self.area[0..0];
+            return &[];
         }
-        let n = end(self.table, self.count).min(self.area.len());
-        &self.area[0..n]
+        let n = end(self.places()).min(self.area.len());
+        &self.area[..n]
     }
 
     // Gives the area and the table back, as they stand.
@@ -56,11 +57,7 @@ impl<'a> PackedSink<'a> {
         ensures table { result.1.now ≡ self.entry.table.now }
         ensures lent { (result.0.ghost_name ≡ self.entry.area.ghost_name) × (result.1.ghost_name ≡ self.entry.table.ghost_name) }
     {
-        let PackedSink {
-            area,
-            table,
-            count: _,
-        } = self;
+        let PackedSink { area, table, .. } = self;
         (area, table)
     }
 }

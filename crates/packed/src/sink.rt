@@ -1,3 +1,5 @@
+ghost use Rattle.std.specs.Prelude.{◌≤◌, length};
+
 use areas::Place;
 
 // The first `count` pairs of the table are the places of the pages.
@@ -6,4 +8,5 @@ pub struct PackedSink<'a> {
     pub(crate) area: &'a mut [u8],
     pub(crate) table: &'a mut [Place],
     pub(crate) count: usize,
+    ghost few: { count ≤ length table.now },
 }

@@ -13,7 +13,7 @@ impl<'a> PackedSink<'a> {
     {
         allowed_area(self.area.len())
             && self.count < self.table.len()
-            && fits(end(self.table, self.count), len, self.area.len())
+            && fits(end(self.places()), len, self.area.len())
     }
 
     // Adds a page that there is room for.
@@ -21,10 +21,10 @@ impl<'a> PackedSink<'a> {
         requires { fits_in self.old (length page.now) ≡ true }
         ensures { Sound self.old → Grown packed_store packed_sink self.old page.now result self.new }
     {
-        let count = self.count;
-        let at = enter(self.table, count, page.len());
+        let at = end(self.places());
+        enter(self.table, self.count, at, page.len());
         lay(self.area, at, page);
-        self.count = count + 1;
+        self.count += 1;
         at
     }
 }

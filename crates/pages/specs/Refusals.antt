@@ -1,7 +1,7 @@
 -- What the refusals of the page layer say.
-use Rattle.std.specs.Prelude.{ℕ, []}
+use Rattle.std.specs.Prelude.{ℕ, List, [], codes}
 use Rattle.sinks.specs.declared.fault.Layer.TheVariants.{Page}
-use Rattle.sinks.specs.Refusals.{Refusal, said}
+use Rattle.sinks.specs.Refusals.{Refusal, said, message}
 use Rattle.pages.specs.declared.fault.PageFault.{PageFault}
 use Rattle.pages.specs.declared.fault.PageFault.TheVariants.{Scratch, PlainBytes, ReadLists, Levels, NoPage, Sink}
 
@@ -17,3 +17,12 @@ said_page ReadLists = by_page 13
 said_page Levels = by_page 23
 said_page NoPage = by_page 27
 said_page (Sink f) = said f
+
+-- the same in words
+abbrev pub message_page : PageFault → List ℕ
+message_page Scratch = codes "the scratch is too short"
+message_page PlainBytes = codes "the batch has more plain bytes than a page takes"
+message_page ReadLists = codes "a list to read into is too short"
+message_page Levels = codes "the open page would have too many levels"
+message_page NoPage = codes "there is no page of that number"
+message_page (Sink f) = message f

@@ -1,11 +1,13 @@
-ghost use Rattle.std.specs.Prelude.{◌≡◌};
-ghost use Rattle.pages.specs.Refusals.{said_page};
+ghost use Rattle.std.specs.Prelude.{◌≡◌, Some};
+ghost use Rattle.pages.specs.Refusals.{said_page, message_page};
 ghost use Rattle.pages.specs.declared.fault.PageFault.TheVariants.{Sink};
 
-use sinks::{Layer, SinkFault};
+use sinks::{Fault, Layer, Said, SinkFault};
+use std::error::Error;
+use std::fmt;
 
 // Why the page layer refuses. What the sink refused is held whole.
-#[derive(Clone, Copy)]
+#[derive(Clone, Copy, PartialEq, Eq, Debug)]
 pub enum PageFault {
     // the scratch is too short
     Scratch,
@@ -20,38 +22,42 @@ pub enum PageFault {
     Sink(SinkFault),
 }
 
-impl PageFault {
-    pub fn number(self) -> u8
-        ensures { result ≡ (said_page self).number }
-    {
-        match self {
+impl Fault for PageFault {
+    ghost meaning = { said_page };
+
+    fn said(self) -> Said {
+        let number = match self {
             PageFault::Scratch => 3,
             PageFault::PlainBytes => 11,
             PageFault::ReadLists => 13,
             PageFault::Levels => 23,
             PageFault::NoPage => 27,
-            PageFault::Sink(fault) => fault.number(),
-        }
-    }
-
-    pub fn layer(self) -> Layer
-        ensures { result ≡ (said_page self).layer }
-    {
-        match self {
-            PageFault::Sink(fault) => fault.layer(),
-            _ => Layer::Page,
-        }
-    }
-
-    pub fn position(self) -> usize
-        ensures { result ≡ (said_page self).position }
-    {
-        match self {
-            PageFault::Sink(fault) => fault.position(),
-            _ => 0,
+            PageFault::Sink(fault) => return fault.said(),
+        };
+        Said {
+            number,
+            layer: Layer::Page,
+            position: 0,
         }
     }
 }
+
+impl fmt::Display for PageFault {
+    ghost output = { λ e. Some (message_page e) };
+
+    fn fmt<W: fmt::Write>(&self, f: &mut fmt::Formatter<W>) -> fmt::Result {
+        match self {
+            PageFault::Scratch => write!(f, "the scratch is too short"),
+            PageFault::PlainBytes => write!(f, "the batch has more plain bytes than a page takes"),
+            PageFault::ReadLists => write!(f, "a list to read into is too short"),
+            PageFault::Levels => write!(f, "the open page would have too many levels"),
+            PageFault::NoPage => write!(f, "there is no page of that number"),
+            PageFault::Sink(fault) => write!(f, "{fault}"),
+        }
+    }
+}
+
+impl Error for PageFault {}
 
 impl From<SinkFault> for PageFault {
     ghost from_gives = { λ f r. r ≡ Sink f };

@@ -1,8 +1,9 @@
 -- What the refusals of the chunk layer say, and in which order a call tests for them.
-use Rattle.std.specs.Prelude.{ℕ, Bool, cond, List, [], ◌∷◌, Err, Result}
+use Rattle.std.specs.Prelude.{ℕ, Bool, cond, List, [], ◌∷◌, ◌++◌, Err, Result, codes}
+use Rattle.std.specs.Fmt.{decimal}
 use Rattle.sinks.specs.declared.fault.Layer.TheVariants.{Chunk}
 use Rattle.sinks.specs.Refusals.{Refusal}
-use Rattle.pages.specs.Refusals.{said_page}
+use Rattle.pages.specs.Refusals.{said_page, message_page}
 use Rattle.refusals.specs.declared.fault.ChunkFault.{ChunkFault}
 use Rattle.refusals.specs.declared.fault.ChunkFault.TheVariants.{Column, Settings, BatchLevels, LevelsAbsent, LevelCount, LevelRange, FirstRepetition, FewValues, ValueLength, Closed, PageWaits, Pages, NoRecord, Page}
 
@@ -26,6 +27,23 @@ said_chunk PageWaits = by_chunk 22 0
 said_chunk Pages = by_chunk 24 0
 said_chunk NoRecord = by_chunk 26 0
 said_chunk (Page f) = said_page f
+
+-- the same in words
+abbrev pub message_chunk : ChunkFault → List ℕ
+message_chunk Column = codes "a width or a maximum level is not allowed"
+message_chunk Settings = codes "a setting or a coder is not allowed"
+message_chunk BatchLevels = codes "the batch has too many levels"
+message_chunk LevelsAbsent = codes "levels that are needed are absent"
+message_chunk LevelCount = codes "a list of levels has another count than the batch"
+message_chunk (LevelRange at) = codes "the level at " ++ decimal at ++ codes " is out of range"
+message_chunk FirstRepetition = codes "the first repetition level is not 0"
+message_chunk FewValues = codes "there are fewer values than needed"
+message_chunk (ValueLength at) = codes "the value at " ++ decimal at ++ codes " has a wrong length"
+message_chunk Closed = codes "the chunk is closed"
+message_chunk PageWaits = codes "a due page waits to be cut"
+message_chunk Pages = codes "the chunk has all the pages that it may have"
+message_chunk NoRecord = codes "the chunk is open, or its opening was refused"
+message_chunk (Page f) = message_page f
 
 -- a test and the refusal that it leads to
 pub record Test : Type 0 where

@@ -4,5 +4,6 @@
 pub struct BatchDone {
     pub values: usize,
     pub pages_cut: usize,
+    // a number, since a batch answers its waiting refusal by number
     pub waiting: u8,
 }

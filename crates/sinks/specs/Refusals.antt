@@ -1,5 +1,6 @@
 -- What the refusals of the sink layer say, from docs/sinks.md.
-use Rattle.std.specs.Prelude.{ℕ, List, [], ◌∷◌}
+use Rattle.std.specs.Prelude.{ℕ, List, [], ◌∷◌, ◌++◌, codes}
+use Rattle.std.specs.Fmt.{decimal}
 use Rattle.sinks.specs.declared.fault.Layer.{Layer}
 use Rattle.sinks.specs.declared.fault.Layer.TheVariants.{Sink}
 use Rattle.sinks.specs.declared.fault.SinkFault.{SinkFault}
@@ -20,3 +21,8 @@ by_sink n vs = record { number = n; layer = Sink; position = 0; values = vs }
 abbrev pub said : SinkFault → Refusal
 said Area = by_sink 12 []
 said (Full n) = by_sink 25 (n ∷ [])
+
+-- the same in words
+abbrev pub message : SinkFault → List ℕ
+message Area = codes "the area has fewer than 4 or more than 65535 bytes"
+message (Full n) = codes "the sink does not take a page of " ++ decimal n ++ codes " bytes"

@@ -1,8 +1,12 @@
-ghost use Rattle.std.specs.Prelude.{◌≡◌};
-ghost use Rattle.sinks.specs.Refusals.{said};
+ghost use Rattle.std.specs.Prelude.{Some};
+ghost use Rattle.sinks.specs.Refusals.{said, message};
+
+use crate::said::{Fault, Said};
+use std::error::Error;
+use std::fmt;
 
 // Who refuses. A refusal is passed up unchanged, so it keeps the layer that it began in.
-#[derive(Clone, Copy)]
+#[derive(Clone, Copy, PartialEq, Eq, Debug)]
 pub enum Layer {
     Sink,
     Page,
@@ -16,28 +20,31 @@ pub enum SinkFault {
     Full(usize),
 }
 
-impl SinkFault {
-    pub fn number(self) -> u8
-        ensures { result ≡ (said self).number }
-    {
-        match self {
+impl Fault for SinkFault {
+    ghost meaning = { said };
+
+    fn said(self) -> Said {
+        let number = match self {
             SinkFault::Area => 12,
             SinkFault::Full(_) => 25,
-        }
-    }
-
-    pub fn layer(self) -> Layer
-        ensures { result ≡ (said self).layer }
-    {
-        Layer::Sink
-    }
-
-    pub fn position(self) -> usize
-        ensures { result ≡ (said self).position }
-    {
-        match self {
-            SinkFault::Area => 0,
-            SinkFault::Full(_) => 0,
+        };
+        Said {
+            number,
+            layer: Layer::Sink,
+            position: 0,
         }
     }
 }
+
+impl fmt::Display for SinkFault {
+    ghost output = { λ e. Some (message e) };
+
+    fn fmt<W: fmt::Write>(&self, f: &mut fmt::Formatter<W>) -> fmt::Result {
+        match self {
+            SinkFault::Area => write!(f, "the area has fewer than 4 or more than 65535 bytes"),
+            SinkFault::Full(len) => write!(f, "the sink does not take a page of {len} bytes"),
+        }
+    }
+}
+
+impl Error for SinkFault {}

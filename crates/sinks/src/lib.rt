@@ -5,9 +5,11 @@
 #![tactic(auto)]
 
 mod fault;
+mod said;
 mod sink;
 mod store;
 
 pub use fault::{Layer, SinkFault};
+pub use said::{Fault, Said};
 pub use sink::PageSink;
 pub use store::PageStore;

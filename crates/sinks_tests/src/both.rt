@@ -2,8 +2,9 @@
 use sinks::{PageSink, PageStore, SinkFault};
 use std::process::Abort;
 
+// Arrays and slices of bytes, compared as slices.
 pub(crate) fn holds(rt: &impl Abort, bytes: &[u8], wanted: &[u8]) {
-    assert!(rt; bytes == wanted);
+    assert_eq!(rt; bytes, wanted);
 }
 
 // Takes nothing, and has nothing.

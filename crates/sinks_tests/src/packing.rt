@@ -54,7 +54,7 @@ fn a_full_table_takes_nothing_more(rt: HostRuntime) {
     let mut table = [NONE; 1];
     filled(&rt, &mut area, &mut table, b"ab", &[0; 9]);
     holds(&rt, &area, b"PAR1ab\x07\x07\x07\x07\x07\x07");
-    assert!(rt; table[0].offset == 4 && table[0].len == 2);
+    assert_eq!(rt; table[0], Place { offset: 4, len: 2 });
 }
 
 #[test]

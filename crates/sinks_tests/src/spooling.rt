@@ -25,8 +25,7 @@ impl<S: PageSink> Spool<S> {
         ensures written { Written S.PageStore.meaning S.PageSink.meaning self.old.sink page.now self.new.sink result }
         ensures base { self.new.base ≡ self.old.base }
     {
-        let offset = self.sink.write(page)?;
-        Ok(offset)
+        self.sink.write(page)
     }
 
     // Copies the k-th of the pages that came since opening.
@@ -42,7 +41,6 @@ impl<S: PageSink> Spool<S> {
     pub(crate) fn into_sink(self) -> S
         ensures { result ≡ self.sink }
     {
-        let Spool { sink, base: _ } = self;
-        sink
+        self.sink
     }
 }

@@ -1,7 +1,7 @@
 -- A slotted sink with one more page: what lies behind the pages and before the pairs is all that its area changes.
-use Rattle.std.proofs.Common.{◌≡◌, ℕ, zero, suc, ◌+◌, ◌-◌, ◌*◌, ◌/◌, ◌%◌, ◌<◌, ◌≤◌, true, leb, List, [], ◌∷◌, ◌++◌, map, length, get_or, take, drop, sym, refl, ap, ◌∙◌, subst, arith}
+use Rattle.std.proofs.Common.{◌≡◌, ℕ, ◌+◌, ◌-◌, ◌*◌, ◌/◌, ◌%◌, ◌<◌, ◌≤◌, true, leb, List, [], ◌∷◌, ◌++◌, map, length, get_or, take, drop, sym, refl, ap, ◌∙◌, subst, arith}
 use Rattle.std.specs.List.{range_with_len}
-use Rattle.std.proofs.lemmas.List.FromFn.{map-range_with_len_more}
+use Rattle.std.proofs.lemmas.List.FromFn.{fill_by_all, length-map-range_with_len, get_or-map-range_with_len, map-range_with_len_more}
 use Rattle.std.proofs.lemmas.List.{get_or-drop, get_or-take, map_push, take-take}
 use Rattle.std.proofs.lemmas.Bool.{and_parts, leb-true}
 use Rattle.sinks.specs.Sinks.{Grown}
@@ -9,16 +9,16 @@ use Rattle.areas.specs.Areas.{part, laid, Tiles, end_of}
 use Rattle.areas.specs.declared.place.Place.{Place}
 use Rattle.areas.proofs.Laying.{length-laid, take-laid, middle_laid, drop-laid}
 use Rattle.areas.proofs.Tiling.{end_push, tiles_push, part_same, pages-more}
-use Rattle.slotted.specs.Slots.{le16, pair_bytes, pair_at, held, pairs, places, end_in, gap, usable, fits_in, slotted_store, slotted_sink, Sound}
+use Rattle.slotted.specs.Slots.{le16, pair_bytes, pair_at, pairs, places, end_in, gap, usable, fits_in, slotted_store, slotted_sink, Sound}
 use Rattle.slotted.specs.declared.sink.SlottedSink.{SlottedSink}
 
 -- what a page that is taken needs, and how long the area is at most
-pub record Room (s : SlottedSink) (n len : ℕ) : Type 0 where
-  pub fits : end_in s + 4 * n + (len + 4) ≤ length s.area.now
+pub record Room (s : SlottedSink) (len : ℕ) : Type 0 where
+  pub fits : end_in s + 4 * s.count + (len + 4) ≤ length s.area.now
   pub small : length s.area.now ≤ 65535
 
-pub room_from_takes : (s : SlottedSink) (n len : ℕ) → fits_in s len ≡ true → n ≡ held s.area.now s.count → Room s n len
-room_from_takes s n len takes filled =
+pub room_from_takes : (s : SlottedSink) (len : ℕ) → fits_in s len ≡ true → Room s len
+room_from_takes s len takes =
     let size = length s.area.now in
     let test = and_parts (usable s) _ takes in
     let sizes = and_parts (leb 4 size) _ test.0 in
@@ -29,10 +29,6 @@ get_or-same : (a b : List ℕ) (n k : ℕ) → drop n a ≡ drop n b → n ≤ k
 get_or-same a b n k same le =
     let e : n + (k - n) ≡ k = omega arith in
     ap (λ i. get_or a i 0) (sym e) ∙ sym (get_or-drop n a (k - n) 0) ∙ ap (λ q. get_or q (k - n) 0) same ∙ get_or-drop n b (k - n) 0 ∙ ap (λ i. get_or b i 0) e
-
-map_counting_same : (f g : ℕ → Place) (a n : ℕ) → ((i : ℕ) → i < a + n → f i ≡ g i) → map f (range_with_len a n) ≡ map g (range_with_len a n)
-map_counting_same f g a zero same = refl
-map_counting_same f g a (suc n) same = ap (λ q. q ∷ map f (range_with_len (a + 1) n)) (same a (omega arith)) ∙ ap (λ q. g a ∷ q) (map_counting_same f g (a + 1) n (λ i lt. same i (omega arith)))
 
 abbrev place : ℕ → ℕ → Place
 place o l = record { offset = o; len = l }
@@ -82,7 +78,7 @@ module _ (a page b a' : List ℕ) (at n : ℕ) (fits : at + 4 * n + (length page
   number_same : (k : ℕ) → length a - 4 * n ≤ k → le16 a' k ≡ le16 a k
   number_same k le = ap (λ x. x + get_or a' (k + 1) 0 * 256) (byte_same k le) ∙ ap (λ x. get_or a k 0 + x * 256) (byte_same (k + 1) (omega arith))
 
-  pair_same : (i : ℕ) → i < 0 + n → pair_at a' i ≡ pair_at a i
+  pair_same : (i : ℕ) → i < n → pair_at a' i ≡ pair_at a i
   pair_same i lt =
       let k = length a - 4 * (i + 1) in
       let low : length a - 4 * n ≤ k = omega arith in
@@ -109,23 +105,23 @@ module _ (a page b a' : List ℕ) (at n : ℕ) (fits : at + 4 * n + (length page
       let l : le16 a' (s + 2) ≡ length page = number_new 2 (length page) (omega arith) (omega arith) refl refl in
       ap (λ m. pair_from a' (m - 4 * (n + 1))) length_after ∙ ap (λ (x : ℕ). place x (le16 a' (s + 2))) o ∙ ap (place at) l
 
-  pub pairs_after : (c c' : ℕ) → n ≡ held a c → c' ≡ n + 1 → pairs a' c' ≡ pairs a c ++ (record { offset = at; len = length page } ∷ [])
-  pairs_after c c' filled next =
-      let now-held : held a' c' ≡ n + 1 = omega (arith, length_after) in
-      ap (λ k. map (pair_at a') (range_with_len 0 k)) now-held ∙ map-range_with_len_more (pair_at a') 0 n n (omega arith)
+  pub pairs_after : pairs a' (n + 1) ≡ pairs a n ++ (record { offset = at; len = length page } ∷ [])
+  pairs_after =
+      map-range_with_len_more (pair_at a') 0 n n (omega arith)
       ∙ ap (λ q. map (pair_at a') (range_with_len 0 n) ++ (q ∷ [])) pair_new
-      ∙ ap (λ q. q ++ (record { offset = at; len = length page } ∷ [])) (map_counting_same (pair_at a') (pair_at a) 0 n pair_same ∙ ap (λ k. map (pair_at a) (range_with_len 0 k)) filled)
+      ∙ ap (λ q. q ++ (record { offset = at; len = length page } ∷ [])) (fill_by_all (pair_at a) (map (pair_at a') (range_with_len 0 n)) n (place 0 0) (length-map-range_with_len (pair_at a') 0 n) (λ k lt. get_or-map-range_with_len (pair_at a') 0 n k k (place 0 0) lt (omega arith) ∙ pair_same k lt))
 
-pub grown : (s s' : SlottedSink) (page b : List ℕ) (at n : ℕ) → fits_in s (length page) ≡ true → n ≡ held s.area.now s.count → at ≡ end_in s
-    → b ≡ laid s.area.now at page → s'.area.now ≡ laid b (length b - 4 * (n + 1)) (pair_bytes at (length page)) → s'.count ≡ n + 1
+pub grown : (s s' : SlottedSink) (page b : List ℕ) (at : ℕ) → fits_in s (length page) ≡ true → at ≡ end_in s
+    → b ≡ laid s.area.now at page → s'.area.now ≡ laid b (length b - 4 * (s.count + 1)) (pair_bytes at (length page)) → s'.count ≡ s.count + 1
     → Sound s → Grown slotted_store slotted_sink s page at s'
-grown s s' page b at n takes filled begin first second next sd =
+grown s s' page b at takes begin first second next sd =
     let a = s.area.now in
     let a' = s'.area.now in
     let q : Place = record { offset = at; len = length page } in
-    let room = room_from_takes s n (length page) takes filled in
+    let n = s.count in
+    let room = room_from_takes s (length page) takes in
     let fits : at + 4 * n + (length page + 4) ≤ length a = omega (arith, room.fits) in
-    let more : places s' ≡ places s ++ (q ∷ []) = pairs_after a page b a' at n fits room.small first second s.count s'.count filled next in
+    let more : places s' ≡ places s ++ (q ∷ []) = ap (pairs a') next ∙ pairs_after a page b a' at n fits room.small first second in
     let same = before a page b a' at n fits room.small first second in
     let long = length_after a page b a' at n fits room.small first second in
     let end : end_in s' ≡ at + length page = ap (end_of 0) more ∙ end_push 0 (places s) q in

@@ -1,5 +1,5 @@
 -- The layout of a slotted sink, from docs/sinks.md.
-use Rattle.std.specs.Prelude.{◌≡◌, ℕ, ◌+◌, ◌-◌, ◌*◌, ◌/◌, ◌%◌, ◌≤◌, min, Bool, ◌&&◌, List, [], ◌∷◌, map, length, nat_le, slice_index}
+use Rattle.std.specs.Prelude.{◌≡◌, ℕ, ◌+◌, ◌-◌, ◌*◌, ◌/◌, ◌%◌, ◌≤◌, Bool, ◌&&◌, List, [], ◌∷◌, map, length, nat_le, slice_index}
 use Rattle.std.specs.List.{range_with_len}
 use Rattle.sinks.specs.Sinks.{SinkMeaning}
 use Rattle.sinks.specs.Stores.{StoreMeaning}
@@ -19,13 +19,9 @@ pair_bytes o n = o % 256 ∷ o / 256 % 256 ∷ n % 256 ∷ n / 256 % 256 ∷ []
 abbrev pub pair_at : List ℕ → ℕ → Place
 pair_at area i = record { offset = le16 area (length area - 4 * (i + 1)); len = le16 area (length area - 4 * (i + 1) + 2) }
 
--- how many of the pairs the area has room for
-abbrev pub held : List ℕ → ℕ → ℕ
-held area n = min n (length area / 4)
-
 -- the pairs, the first page's first
 abbrev pub pairs : List ℕ → ℕ → List Place
-pairs area n = map (pair_at area) (range_with_len 0 (held area n))
+pairs area n = map (pair_at area) (range_with_len 0 n)
 
 -- the places of the pages
 abbrev pub places : SlottedSink → List Place
@@ -37,7 +33,7 @@ end_in s = end_of 0 (places s)
 
 -- how many bytes lie between the pages and the pairs
 abbrev pub gap : SlottedSink → ℕ
-gap s = length s.area.now - 4 * held s.area.now s.count - end_in s
+gap s = length s.area.now - 4 * s.count - end_in s
 
 -- whether the area may be used
 abbrev pub usable : SlottedSink → Bool

@@ -27,7 +27,7 @@ impl<'a> SlottedSink<'a> {
         ensures area { result.now ≡ self.entry.area.now }
         ensures lent { result.ghost_name ≡ self.entry.area.ghost_name }
     {
-        let SlottedSink { area, count: _ } = self;
+        let SlottedSink { area, .. } = self;
         area
     }
 }

@@ -1,6 +1,9 @@
+ghost use Rattle.std.specs.Prelude.{◌*◌, ◌≤◌, length};
+
 // The last `count` pairs of the area are the places of the pages.
 #[derive(Drop)]
 pub struct SlottedSink<'a> {
     pub(crate) area: &'a mut [u8],
     pub(crate) count: usize,
+    ghost few: { 4 * count ≤ length area.now },
 }

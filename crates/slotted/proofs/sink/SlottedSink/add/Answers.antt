@@ -7,9 +7,9 @@ pub enter-requires : goal.enter-requires
 enter-requires c =
     let s = c.args.self.now in
     let p = c.args.page.now in
-    let room = room_from_takes s c.filled-n.result (length p) c.requires c.filled-n.ensures.held in
+    let room = room_from_takes s (length p) c.requires in
     let long = ap length c.lay.ensures ∙ length-laid s.area.now c.end-at.result p (omega (arith, room.fits, c.end-at.ensures)) in
     record { room = omega (arith, room.fits, long); small = omega (arith, room.fits, room.small, c.end-at.ensures) }
 
 pub returns : goal.returns
-returns c = grown c.args.self.now _ c.args.page.now c.lay.new.area c.end-at.result c.filled-n.result c.requires c.filled-n.ensures.held c.end-at.ensures c.lay.ensures c.enter.ensures refl
+returns c = grown c.args.self.now _ c.args.page.now c.lay.new.area c.end-at.result c.requires c.end-at.ensures c.lay.ensures c.enter.ensures refl

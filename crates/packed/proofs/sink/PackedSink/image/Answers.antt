@@ -1,8 +1,0 @@
-use Rattle.std.proofs.Common.{min, length, sym, ap, ◌∙◌}
-use Rattle.packed.proofs.Growing.{image_whole}
-use Rattle.packed.proofs.sink.PackedSink.image.Goals as goal
-
-pub returns : goal.returns
-returns c =
-    let s = c.args.self.now in
-    image_whole s c.min-n.result (c.min-n.ensures ∙ ap (λ k. min k (length s.area.now)) c.end.ensures) (sym c.allowed_area.ensures ∙ c.if-not-allowed_area.false)
