@@ -1,17 +1,14 @@
 -- A whole page: its two lists and its body are what went in, and nothing else is a page.
-use Rattle.std.proofs.Common.{◌≡◌, ℕ, ◌≤◌, true, false, eqb, List, ◌++◌, length, take, drop, Some, None, Option, sym, ap, ◌∙◌, ⊎_elim, arith}
-use Rattle.std.proofs.lemmas.List.{drop-drop, drop_at, take_at}
-use Rattle.std.proofs.lemmas.Bool.{cond-true, cond-false, eq-eqb, ne_eqb, cases_eq, both_ways}
+use Rattle.std.proofs.Common.{◌≡◌, ℕ, ◌≤◌, eqb, List, ◌++◌, length, drop, Some, None, sym, ap, ◌∙◌, subst, ⊎_elim, arith}
+use Rattle.std.proofs.lemmas.List.{drop-drop, drop_at}
+use Rattle.std.proofs.lemmas.Bool.{cond-false, ne_eqb, cases_eq}
 use Rattle.level_coder.specs.Coding.{Coding}
 use Rattle.body_coder.specs.Body.{Body, whole, Wrote}
 use Rattle.pages.specs.declared.layout.Layout.{Layout}
+use Rattle.pages.specs.declared.list.ListForm.{ListForm}
 use Rattle.pages.specs.Layout.{level_part, level_size_of}
-use Rattle.pages.specs.Reading.{list_count, LevelsAt, levels_size, LevelsRead, PageHolds, PageRead}
+use Rattle.pages.specs.Reading.{list_count, ListAt, NoListAt, LevelsAt, levels_size, PageHolds, PageTaken}
 use Rattle.pages.proofs.Parts.{length_part, size_none, part_none}
-
-pub count_few : (most n : ℕ) → n ≤ 1024 → list_count most n ≤ 1024
-count_few most n h =
-    ⊎_elim (λ z. omega (arith, cond-true (eqb most 0) 0 n (eq-eqb most 0 z))) (λ z. omega (arith, cond-false (eqb most 0) 0 n (ne_eqb most 0 z))) (cases_eq most 0)
 
 counted-part : (c : Coding) (version most n : ℕ) (ls : List ℕ) → length ls ≡ list_count most n → length (level_part c version most ls) ≡ level_size_of c version most n
 counted-part c version most n ls e =
@@ -55,58 +52,70 @@ module _ (c : Coding) (b : Body) (l : Layout) (n : ℕ) (page : List ℕ) where
     pub body_long : length (drop (levels_size c l n) page) ≡ length pl
     body_long = ap length holds_body ∙ b.sized l.width pl h.fits.plain_bytes
 
-  -- what is behind the levels is a body only if it is whole values
-  pub none_whole : (sub : List ℕ) → sub ≡ drop (levels_size c l n) page → whole b.joins l.width (length sub) ≡ false
-      → (rs ds pl : List ℕ) → PageHolds c b l n page rs ds pl → ⊥
-  none_whole sub e f rs ds pl h =
-      both_ways (whole b.joins l.width (length sub)) f
-      (ap (λ k. whole b.joins l.width k) (ap length e ∙ body_long rs ds pl h) ∙ h.fits.plain_bytes)
+  -- ---- the steps of reading, by the forms of the layout's lists
 
-  holds_from : (rs ds sub : List ℕ) → n ≤ 1024 → LevelsAt c l n page rs ds → sub ≡ drop (levels_size c l n) page → whole b.joins l.width (length sub) ≡ true
-      → PageHolds c b l n page rs ds (b.plain l.width sub)
-  holds_from rs ds sub few lv e w =
-      let q1 : List ℕ = level_part c l.version l.max_rep_level rs in
-      let q2 : List ℕ = level_part c l.version l.max_def_level ds in
-      record {
-        few = few;
-        rep_count = lv.repetition.count;
-        def_count = lv.definition.count;
-        fits = record {
-          repetition = lv.repetition.fits;
-          definition = lv.definition.fits;
-          plain_bytes = ap (λ k. whole b.joins l.width k) (b.unsized l.width sub w) ∙ w;
-        };
-        same =
-            lv.repetition.front ∙ ap (λ x. q1 ++ x) (lv.definition.front ∙ ap (λ x. q2 ++ x) (drop-drop second first page ∙ sym e ∙ sym (b.forth l.width sub w)));
-      }
+  module _ (rf df : ListForm) (rf-is : rf ≡ record { version = l.version; max = l.max_rep_level }) (df-is : df ≡ record { version = l.version; max = l.max_def_level }) where
+    pub no_reps : NoListAt c rf.version rf.max n page → (rs ds pl : List ℕ) → PageHolds c b l n page rs ds pl → ⊥
+    no_reps none rs ds pl h = subst (λ (f : ListForm). NoListAt c f.version f.max n page) rf-is none rs (holds_levels rs ds pl h).repetition
 
-  -- ---- the last step of reading
+    module _ (rest : List ℕ) (behind-reps : rest ≡ drop (level_size_of c rf.version rf.max n) page) where
+      rest-is : rest ≡ drop first page
+      rest-is = behind-reps ∙ ap (λ (f : ListForm). drop (level_size_of c f.version f.max n) page) rf-is
 
-  module _ (sub ro ro' dn dn' po po' rb rb' db db' : List ℕ) (rc dc end : ℕ) (few : n ≤ 1024) (levels : LevelsRead c l n page rb db rb' db' (Some end))
-      (e : sub ≡ drop end page) (w : whole b.joins l.width (length sub) ≡ true) (rc-is : rc ≡ list_count l.max_rep_level n) (dc-is : dc ≡ list_count l.max_def_level n)
-      (r-room : rc ≤ length ro) (d-room : dc ≤ length dn) (p-room : length sub ≤ length po)
-      (r-after : ro' ≡ take rc rb' ++ drop rc ro) (d-after : dn' ≡ take dc db' ++ drop dc dn) where
-    front_of : (k : ℕ) (xs buf buf' out : List ℕ) → length xs ≡ k → buf' ≡ xs ++ drop k buf → take k buf' ++ drop k out ≡ xs ++ drop (length xs) out
-    front_of k xs buf buf' out g f =
-        ap (λ x. x ++ drop k out) (ap (take k) f ∙ take_at xs (drop k buf) k g) ∙ ap (λ m. xs ++ drop m out) (sym g)
+      pub no_defs : NoListAt c df.version df.max n rest → (rs ds pl : List ℕ) → PageHolds c b l n page rs ds pl → ⊥
+      no_defs none rs ds pl h =
+          subst (λ (f : ListForm). NoListAt c f.version f.max n rest) df-is none ds
+          (subst (λ x. ListAt c l.version l.max_def_level n x ds) (sym rest-is) (holds_levels rs ds pl h).definition)
 
-    pub page_end : (r : Option ℕ) → Wrote b l.width sub (b.plain l.width sub) po po' r → PageRead c b l n page ro dn po ro' dn' po' r
-    page_end None h = absurd (h.1 w p-room)
-    page_end (Some k) h =
-        let rs : List ℕ = levels.2.0 in
-        let ds : List ℕ = levels.2.1 in
-        let at = levels.2.2 in
-        let pl : List ℕ = b.plain l.width sub in
-        let long : length pl ≡ length sub = b.unsized l.width sub w in
-        let body : sub ≡ drop (levels_size c l n) page = e ∙ ap (λ m. drop m page) levels.0 in
-        record {
-          reps = rs;
-          defs = ds;
-          plain = pl;
-          holds = holds_from rs ds sub few at body w;
-          roomy = record { rep_room = omega (arith, rc-is, r-room); def_room = omega (arith, dc-is, d-room); plain_room = omega (arith, long, p-room) };
-          size = h.0 ∙ sym long;
-          rep_after = r-after ∙ front_of rc rs rb rb' ro (at.repetition.count ∙ sym rc-is) (levels.2.3 ∙ ap (λ m. rs ++ drop m rb) (sym rc-is));
-          def_after = d-after ∙ front_of dc ds db db' dn (at.definition.count ∙ sym dc-is) (levels.2.4 ∙ ap (λ m. ds ++ drop m db) (sym dc-is));
-          plain_after = h.3;
-        }
+      module _ (body po : List ℕ) (behind-defs : body ≡ drop (level_size_of c df.version df.max n) rest) where
+        body-is : body ≡ drop (levels_size c l n) page
+        body-is =
+            behind-defs ∙ ap (λ (f : ListForm). drop (level_size_of c f.version f.max n) rest) df-is ∙ ap (drop second) rest-is ∙ drop-drop second first page
+
+        pub no_plain : (po' : List ℕ) → Wrote b l.width body (b.plain l.width body) po po' None
+            → (rs ds pl : List ℕ) → PageHolds c b l n page rs ds pl → length pl ≤ length po → ⊥
+        no_plain po' w rs ds pl h room =
+            let long : length body ≡ length pl = ap length body-is ∙ body_long rs ds pl h in
+            w.1 (ap (λ k. whole b.joins l.width k) long ∙ h.fits.plain_bytes) (omega (arith, long, room))
+
+        -- what was read of a page
+        module _ (rs ds ro dn : List ℕ) (few : n ≤ 1024) (ra : ListAt c rf.version rf.max n page rs) (da : ListAt c df.version df.max n rest ds) where
+          ra-is : ListAt c l.version l.max_rep_level n page rs
+          ra-is = subst (λ (f : ListForm). ListAt c f.version f.max n page rs) rf-is ra
+
+          da-is : ListAt c l.version l.max_def_level n rest ds
+          da-is = subst (λ (f : ListForm). ListAt c f.version f.max n rest ds) df-is da
+
+          pub page_taken : (po' : List ℕ) (rc dc k : ℕ) → rc ≡ list_count rf.max n → dc ≡ list_count df.max n → rc ≤ length ro → dc ≤ length dn
+              → Wrote b l.width body (b.plain l.width body) po po' (Some k) → PageTaken c b l n page ro dn po (rs ++ drop rc ro) (ds ++ drop dc dn) po' k
+          page_taken po' rc dc k rc-is dc-is r-room d-room w =
+              let pl : List ℕ = b.plain l.width body in
+              let long : length pl ≡ length body = b.unsized l.width body w.1 in
+              let p : List ℕ = level_part c l.version l.max_rep_level rs in
+              let q : List ℕ = level_part c l.version l.max_def_level ds in
+              let behind : drop second rest ≡ b.coded l.width pl = ap (drop second) rest-is ∙ drop-drop second first page ∙ sym body-is ∙ sym (b.forth l.width body w.1) in
+              record {
+                reps = rs;
+                defs = ds;
+                plain = pl;
+                holds = record {
+                  few = few;
+                  rep_count = ra-is.count;
+                  def_count = da-is.count;
+                  fits = record {
+                    repetition = ra-is.fits;
+                    definition = da-is.fits;
+                    plain_bytes = ap (λ m. whole b.joins l.width m) long ∙ w.1;
+                  };
+                  same = ra-is.front ∙ ap (λ x. p ++ x) (sym rest-is ∙ da-is.front ∙ ap (λ x. q ++ x) behind);
+                };
+                roomy = record {
+                  rep_room = omega (arith, r-room, rc-is, ra.count, ra-is.count);
+                  def_room = omega (arith, d-room, dc-is, da.count, da-is.count);
+                  plain_room = omega (arith, long, w.0, w.2);
+                };
+                size = w.0 ∙ sym long;
+                rep_after = ap (λ m. rs ++ drop m ro) (rc-is ∙ sym ra.count);
+                def_after = ap (λ m. ds ++ drop m dn) (dc-is ∙ sym da.count);
+                plain_after = w.3;
+              }
