@@ -4,3 +4,4 @@ pub mod Assembling
 pub mod Lists
 pub mod Whole
 pub mod Unique
+pub mod Steps

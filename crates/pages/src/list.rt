@@ -1,4 +1,5 @@
-ghost use Rattle.std.specs.Prelude.{◌≡◌, ◌≤◌, ◌&&◌, ◌==◌, length, drop, MatchOption};
+ghost use Rattle.std.specs.Prelude.{◌≡◌, ◌^◌, ◌<◌, ◌&&◌, ◌==◌, nat_eq, length, drop, count_by, MatchOption, if◌then◌else◌};
+ghost use Rattle.kinds.specs.Plain.{four};
 ghost use Rattle.pages.specs.Layout.{level_part, level_size_of, LevelSize};
 ghost use Rattle.pages.specs.Pages.{ListFits, Measured};
 ghost use Rattle.pages.specs.Reading.{list_count, ListAt, NoListAt};
@@ -33,6 +34,16 @@ impl ListForm {
         ensures { result ≡ list_count self.max n }
     {
         if self.max == 0 { 0 } else { n }
+    }
+
+    // How many of a page's `n` levels have a value, by the list's levels: those of the maximum, and all where that is 0.
+    pub(crate) fn value_count(self, n: usize, levels: &[u8]) -> usize
+        ensures { result ≡ (if self.max == 0 then n else count_by (nat_eq self.max) levels.now) }
+    {
+        if self.max == 0 {
+            return n;
+        }
+        levels.iter().filter(|level| self.max == **level).count()
     }
 
     // How many bytes `n` levels take.
@@ -76,7 +87,7 @@ impl ListForm {
             return;
         }
         let (length, coded) = out.split_at_mut(4);
-        length.copy_from_slice(&(coded.len() as u32).to_le_bytes());
+        length.copy_from_slice(&length_bytes(coded.len()));
         L::code(levels, self.width(), coded);
     }
 
@@ -101,11 +112,19 @@ impl ListForm {
         }
         let coded = if self.has_length::<L>() {
             let size = L::size(n, self.width())?;
-            bytes.strip_prefix(&(size as u32).to_le_bytes())?
+            bytes.strip_prefix(&length_bytes(size))?
         } else {
             bytes
         };
         let size = L::read(coded, n, self.width(), levels)?;
         Some(&coded[size..])
     }
+}
+
+// A list's length as it stands before the list, in four little-endian bytes.
+fn length_bytes(n: usize) -> [u8; 4]
+    requires { n < 2 ^ 32 }
+    ensures { result ≡ four n }
+{
+    (n as u32).to_le_bytes()
 }

@@ -1,7 +1,7 @@
 ghost use Rattle.pages.specs.Counts.{byte_count, Counted};
 ghost use Rattle.pages.specs.Reading.{PageRead, ReadsBack};
 
-use crate::counts::{PageCounts, value_count};
+use crate::counts::PageCounts;
 use crate::layout::Layout;
 use body_coder::BodyCoder;
 use level_coder::LevelCoder;
@@ -40,7 +40,7 @@ pub fn read_page<L: LevelCoder, B: BodyCoder>(
     defs[..def_count].copy_from_slice(def_levels);
     Some(PageCounts {
         levels: n,
-        values: value_count(layout.max_def_level, n, defs),
+        values: def_form.value_count(n, def_levels),
         bytes,
     })
 }
