@@ -8,7 +8,7 @@ ghost use Rattle.pages.specs.Widths.{bit_length};
 use level_coder::{LevelCoder, bit_width};
 
 // What a level list's bytes depend on besides its levels.
-#[derive(Debug, Clone, Copy, PartialEq, Eq)]
+#[derive(Clone, Copy)]
 pub(crate) struct ListForm {
     pub(crate) version: u8,
     pub(crate) max: u8,
@@ -82,13 +82,13 @@ impl ListForm {
         if self.max == 0 {
             return;
         }
-        if !self.has_length::<L>() {
-            L::code(levels, self.width(), out);
-            return;
+        if self.has_length::<L>() {
+            let (length, coded) = out.split_at_mut(4);
+            length.copy_from_slice(&length_bytes(coded.len()));
+            L::code(levels, self.width(), coded).unwrap();
+        } else {
+            L::code(levels, self.width(), out).unwrap();
         }
-        let (length, coded) = out.split_at_mut(4);
-        length.copy_from_slice(&length_bytes(coded.len()));
-        L::code(levels, self.width(), coded);
     }
 
     // Reads the list of a page of `n` levels off the front of bytes, and answers what is behind it.
