@@ -1,6 +1,7 @@
 pub mod Bits
 pub mod Parts
-pub mod Places
+pub mod Assembling
 pub mod Lists
 pub mod Whole
 pub mod Unique
+pub mod Steps

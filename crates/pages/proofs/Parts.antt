@@ -1,13 +1,18 @@
 -- How long a page and its parts are.
-use Rattle.std.proofs.Common.{◌≡◌, ℕ, ◌+◌, Bool, true, false, cond, ◌&&◌, eqb, List, [], ◌++◌, length, sym, ap, ◌∙◌, subst, ⊎_elim, arith}
+use Rattle.std.proofs.Common.{◌≡◌, ℕ, ◌+◌, ◌^◌, ◌<◌, ◌≤◌, Bool, true, false, cond, ◌&&◌, eqb, ltb, List, [], ◌++◌, length, Some, Decides, sym, refl, ap, ◌∙◌, subst, ⊎_elim, arith}
 use Rattle.std.proofs.lemmas.List.{length-append}
-use Rattle.std.proofs.lemmas.Bool.{cases_Bool, cond-true, cond-false, eq-eqb, ne_eqb}
+use Rattle.std.proofs.lemmas.List.Elements.{recursion_from_All, All-from_recursion}
+use Rattle.std.proofs.lemmas.Bool.{cases_Bool, cond-true, cond-false, eq-eqb, ne_eqb, false≢true}
+use Rattle.std.proofs.lemmas.Bool.Decides.{Decides-like, Decides-by_and, Decides-ltb}
+use Rattle.std.specs.List.{AllByRecursion, list_all}
+use Rattle.std.specs.Bool.{then_some}
+use Rattle.bits.specs.Rows.{Fit}
 use Rattle.kinds.specs.Plain.{four}
 use Rattle.level_coder.specs.Coding.{Coding, Admitted}
 use Rattle.body_coder.specs.Body.{Body, whole}
 use Rattle.pages.specs.declared.layout.Layout.{Layout}
-use Rattle.pages.specs.Layout.{with_length, level_part, level_size_of, page_bytes, parts_size, SizeIsLength}
-use Rattle.pages.specs.Pages.{ListFits}
+use Rattle.pages.specs.Layout.{with_length, level_part, level_size_of, page_bytes, parts_size, LevelSize, SizeIsLength}
+use Rattle.pages.specs.Pages.{ListFits, Measured}
 use Rattle.pages.specs.Widths.{bit_length}
 use Rattle.pages.proofs.Bits.{four_bits}
 
@@ -68,3 +73,25 @@ module _ (c : Coding) (version most : ℕ) where
 pub admitted : (most b : ℕ) (ls : List ℕ) → b ≡ bit_length most → ListFits most ls → Admitted b ls
 admitted most b ls e f =
     subst (λ n. Admitted n ls) (sym e) record { few = f.few; narrow = four_bits most f.narrow; fit = f.fit }
+
+-- levels that its coder admits fit a list
+pub fitting : (most b : ℕ) (ls : List ℕ) → most ≤ 15 → b ≡ bit_length most → Admitted b ls → ListFits most ls
+fitting most b ls n e a = record { few = a.few; narrow = n; fit = subst (λ k. Fit k ls) e a.fit }
+
+-- ---- measuring
+
+-- a chain's answer on levels says whether each of them is below the limit
+all_fit : (limit : ℕ) (ls : List ℕ) → Decides (list_all (λ l. ltb l limit) ls) (AllByRecursion (λ l. l < limit) ls)
+all_fit limit ls =
+    Decides-like _ (recursion_from_All (λ l. l < limit) ls) (All-from_recursion (λ l. l < limit) ls)
+    (Decides-by_and (λ l. ltb l limit) (λ l. l < limit) (list_all (λ l. ltb l limit)) (λ l. Decides-ltb l limit) refl (λ _ _. refl) ls)
+
+pub measured : (c : Coding) (version most limit k : ℕ) (ls : List ℕ) (all : Bool) → LevelSize c version most (length ls) (Some k) → limit ≡ 2 ^ bit_length most
+    → all ≡ list_all (λ l. ltb l limit) ls → Measured c version most ls (then_some all k)
+measured c version most limit k ls true s e a = (
+  record { few = s.0; narrow = s.1; fit = subst (λ m. AllByRecursion (λ l. l < m) ls) e ((all_fit limit ls).0 (sym a)) },
+  s.2,
+  s.3,
+)
+measured c version most limit k ls false s e a = λ f.
+    false≢true (a ∙ (all_fit limit ls).1 (subst (λ m. AllByRecursion (λ l. l < m) ls) (sym e) f.fit))

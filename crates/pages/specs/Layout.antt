@@ -1,7 +1,7 @@
 -- A page's bytes, as the format lays a data page down: repetition levels, definition levels, values.
-use Rattle.std.specs.Prelude.{◌≡◌, ℕ, ◌+◌, ◌≤◌, Bool, true, false, cond, ◌&&◌, List, [], ◌++◌, length, take, drop, Some, None, Option, ◌==◌}
+use Rattle.std.specs.Prelude.{◌≡◌, ℕ, ◌+◌, ◌≤◌, Bool, true, false, cond, ◌&&◌, List, [], ◌++◌, length, Some, None, Option, ◌==◌}
 use Rattle.kinds.specs.Plain.{four}
-use Rattle.level_coder.specs.Coding.{Coding, Admitted}
+use Rattle.level_coder.specs.Coding.{Coding}
 use Rattle.body_coder.specs.Body.{Body, whole}
 use Rattle.pages.specs.Widths.{bit_length}
 use Rattle.pages.specs.declared.layout.Layout.{Layout}
@@ -55,15 +55,3 @@ PageSize c l n m (Some k) = Small l n m × (k ≡ page_size c l n m) × (k ≤ 9
 abbrev pub SizeIsLength : Coding → Body → Layout → Type 0
 SizeIsLength c b l = (reps defs plain : List ℕ) → length reps ≡ length defs → whole b.joins l.width (length plain) ≡ true
     → length (page_bytes c b l reps defs plain) ≡ page_size c l (length defs) (length plain)
-
--- what coding levels to a place of `out` answers and leaves
-abbrev pub CodedAt : Coding → ℕ → ℕ → List ℕ → List ℕ → List ℕ → Option ℕ → Type 0
-CodedAt c b at ls out out' None = (out' ≡ out) × (Admitted b ls → at + c.size (length ls) b ≤ length out → ⊥)
-CodedAt c b at ls out out' (Some k) =
-    (k ≡ c.size (length ls) b) × Admitted b ls × (at + k ≤ length out) × (out' ≡ take at out ++ (c.coded b ls ++ drop (at + k) out))
-
--- the same of a body
-abbrev pub BodyAt : Body → ℕ → ℕ → List ℕ → List ℕ → List ℕ → Option ℕ → Type 0
-BodyAt b w at plain out out' None = (out' ≡ out) × (whole b.joins w (length plain) ≡ true → at + length plain ≤ length out → ⊥)
-BodyAt b w at plain out out' (Some k) =
-    (k ≡ length plain) × (whole b.joins w (length plain) ≡ true) × (at + k ≤ length out) × (out' ≡ take at out ++ (b.coded w plain ++ drop (at + k) out))

@@ -1,27 +1,10 @@
 -- What reading a page's lists answers, for every byte string.
-use Rattle.std.specs.Prelude.{◌≡◌, ℕ, ◌+◌, ◌/◌, ◌%◌, ◌≤◌, true, cond, List, ◌++◌, length, drop, Some, None, Option, ◌==◌, slice_index_or}
-use Rattle.level_coder.specs.Coding.{Coding, Admitted}
+use Rattle.std.specs.Prelude.{◌≡◌, ℕ, ◌+◌, ◌≤◌, cond, List, ◌++◌, length, drop, Some, None, Option, ◌==◌}
+use Rattle.level_coder.specs.Coding.{Coding}
 use Rattle.pages.specs.declared.layout.Layout.{Layout}
 use Rattle.body_coder.specs.Body.{Body}
-use Rattle.pages.specs.Layout.{with_length, level_part, level_size_of, page_bytes}
+use Rattle.pages.specs.Layout.{level_part, level_size_of, page_bytes}
 use Rattle.pages.specs.Pages.{ListFits, PageFits}
-
--- bytes that begin with a number's four little-endian bytes
-pub record StartsWith (bytes : List ℕ) (n : ℕ) : Type 0 where
-  pub first : slice_index_or bytes 0 0 ≡ n % 256
-  pub second : slice_index_or bytes 1 0 ≡ n / 256 % 256
-  pub third : slice_index_or bytes 2 0 ≡ n / 65536 % 256
-  pub fourth : slice_index_or bytes 3 0 ≡ n / 16777216 % 256
-
--- bytes that begin with coded levels behind their length, which are these
-pub record Framed (c : Coding) (b n : ℕ) (bytes ls : List ℕ) : Type 0 where
-  pub count : length ls ≡ n
-  pub admitted : Admitted b ls
-  pub front : bytes ≡ with_length true (c.coded b ls) ++ drop (4 + c.size n b) bytes
-
-abbrev pub FramedRead : Coding → ℕ → ℕ → List ℕ → List ℕ → List ℕ → Option ℕ → Type 0
-FramedRead c b n bytes lv lv' None = (lv' ≡ lv) × (n ≤ length lv → (ls : List ℕ) → Framed c b n bytes ls → ⊥)
-FramedRead c b n bytes lv lv' (Some k) = (k ≡ 4 + c.size n b) × (n ≤ length lv) × ((ls : List ℕ) × Framed c b n bytes ls × (lv' ≡ ls ++ drop n lv))
 
 -- how many levels a list up to a maximum has: none where that is 0
 abbrev pub list_count : ℕ → ℕ → ℕ
@@ -33,14 +16,9 @@ pub record ListAt (c : Coding) (version most n : ℕ) (bytes ls : List ℕ) : Ty
   pub fits : ListFits most ls
   pub front : bytes ≡ level_part c version most ls ++ drop (level_size_of c version most n) bytes
 
--- what reading a list answers, and what the lent list then holds: levels exactly if the bytes begin with such a list
--- and there is room
-abbrev pub ListRead : Coding → ℕ → ℕ → ℕ → List ℕ → List ℕ → List ℕ → Option ℕ → Type 0
-ListRead c version most n bytes lv lv' None =
-    (lv' ≡ lv) × (list_count most n ≤ length lv → (ls : List ℕ) → ListAt c version most n bytes ls → ⊥)
-ListRead c version most n bytes lv lv' (Some k) =
-    (k ≡ level_size_of c version most n) × (k ≤ length bytes) × (list_count most n ≤ length lv)
-    × ((ls : List ℕ) × ListAt c version most n bytes ls × (lv' ≡ ls ++ drop (list_count most n) lv))
+-- bytes that begin with no list of levels
+abbrev pub NoListAt : Coding → ℕ → ℕ → ℕ → List ℕ → Type 0
+NoListAt c version most n bytes = (ls : List ℕ) → ListAt c version most n bytes ls → ⊥
 
 -- the levels that a page begins with: its repetition levels, and its definition levels behind them
 pub record LevelsAt (c : Coding) (l : Layout) (n : ℕ) (page rs ds : List ℕ) : Type 0 where
@@ -50,15 +28,6 @@ pub record LevelsAt (c : Coding) (l : Layout) (n : ℕ) (page rs ds : List ℕ) 
 -- how many bytes these take
 abbrev pub levels_size : Coding → Layout → ℕ → ℕ
 levels_size c l n = level_size_of c l.version l.max_rep_level n + level_size_of c l.version l.max_def_level n
-
--- what reading them answers, into two lists with room for as many as there are
-abbrev pub LevelsRead : Coding → Layout → ℕ → List ℕ → List ℕ → List ℕ → List ℕ → List ℕ → Option ℕ → Type 0
-LevelsRead c l n page rb db rb' db' None =
-    list_count l.max_rep_level n ≤ length rb → list_count l.max_def_level n ≤ length db → (rs ds : List ℕ) → LevelsAt c l n page rs ds → ⊥
-LevelsRead c l n page rb db rb' db' (Some k) =
-    (k ≡ levels_size c l n) × (k ≤ length page)
-    × ((rs : List ℕ) × (ds : List ℕ) × LevelsAt c l n page rs ds
-    × (rb' ≡ rs ++ drop (list_count l.max_rep_level n) rb) × (db' ≡ ds ++ drop (list_count l.max_def_level n) db))
 
 -- a page of n levels, by what went into it; a list whose maximum is 0 is empty
 pub record PageHolds (c : Coding) (b : Body) (l : Layout) (n : ℕ) (page reps defs plain : List ℕ) : Type 0 where

@@ -1,5 +1,5 @@
 // How many levels, values and plain bytes a page has.
-#[derive(Clone, Copy)]
+#[derive(Debug, Clone, Copy, PartialEq, Eq)]
 pub struct PageCounts {
     pub levels: usize,
     pub values: usize,

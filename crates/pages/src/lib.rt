@@ -6,16 +6,13 @@ mod assembly;
 mod counts;
 mod fault;
 mod layout;
-mod page;
-mod put;
+mod list;
 mod reading;
 mod size;
-mod values;
-mod width;
 
 pub use assembly::assemble;
 pub use counts::PageCounts;
 pub use fault::PageFault;
 pub use layout::Layout;
-pub use page::read_page;
+pub use reading::read_page;
 pub use size::page_size;

@@ -1,79 +1,46 @@
-ghost use Rattle.std.specs.Prelude.{◌≡◌, ◌≤◌, length, Decides};
-ghost use Rattle.pages.specs.Reading.{StartsWith, FramedRead, ListRead, LevelsRead};
+ghost use Rattle.pages.specs.Counts.{byte_count, Counted};
+ghost use Rattle.pages.specs.Reading.{PageRead, ReadsBack};
 
+use crate::counts::PageCounts;
 use crate::layout::Layout;
-use crate::size::has_length;
-use crate::width::level_width;
+use body_coder::BodyCoder;
 use level_coder::LevelCoder;
 
-// Whether bytes begin with a length in four little-endian bytes.
-fn starts_with(bytes: &[u8], n: usize) -> bool
-    requires { 4 ≤ length bytes.now }
-    ensures { Decides result (StartsWith bytes.now n) }
-{
-    bytes[0] as usize == n % 256
-        && bytes[1] as usize == n / 256 % 256
-        && bytes[2] as usize == n / 65536 % 256
-        && bytes[3] as usize == n / 16777216 % 256
-}
-
-// Reads levels that stand behind their length.
-fn read_framed<L: LevelCoder>(n: usize, b: u32, bytes: &[u8], levels: &mut [u8]) -> Option<usize>
-    ensures { FramedRead L.LevelCoder.coding b n bytes.now levels.old levels.new result }
-{
-    let Some(size) = L::size(n, b) else {
-        return None;
-    };
-    if bytes.len() < 4 {
-        return None;
-    }
-    if !starts_with(bytes, size) {
-        return None;
-    }
-    match L::read(&bytes[4..], n, b, levels) {
-        Some(k) => Some(4 + k),
-        None => None,
-    }
-}
-
-// Reads a list of `n` levels up to the maximum off the front of bytes, and answers how many bytes it took.
-pub(crate) fn read_list<L: LevelCoder>(
-    version: u8,
-    max: u8,
-    n: usize,
-    bytes: &[u8],
-    levels: &mut [u8],
-) -> Option<usize>
-    ensures { ListRead L.LevelCoder.coding version max n bytes.now levels.old levels.new result }
-{
-    if max == 0 {
-        return Some(0);
-    }
-    if max > 15 {
-        return None;
-    }
-    if has_length::<L>(version) {
-        return read_framed::<L>(n, level_width(max), bytes, levels);
-    }
-    L::read(bytes, n, level_width(max), levels)
-}
-
-// Reads the two level lists that a page begins with, and answers how many bytes they took.
-pub(crate) fn read_levels<L: LevelCoder>(
+// Reads a page of `n` levels back: its levels, each list where the maximum is above 0, and its plain bytes.
+pub fn read_page<L: LevelCoder, B: BodyCoder>(
     layout: Layout,
     n: usize,
     page: &[u8],
     reps: &mut [u8],
     defs: &mut [u8],
-) -> Option<usize>
-    ensures { LevelsRead L.LevelCoder.coding layout n page.now reps.old defs.old reps.new defs.new result }
+    plain: &mut [u8],
+) -> Option<PageCounts>
+    ensures read { PageRead L.LevelCoder.coding B.BodyCoder.body layout n page.now reps.old defs.old plain.old reps.new defs.new plain.new (byte_count result) }
+    ensures back { ReadsBack L.LevelCoder.coding B.BodyCoder.body layout n page.now reps.old defs.old plain.old reps.new defs.new plain.new (byte_count result) }
+    ensures counts { Counted layout n defs.new result }
 {
-    let Some(a) = read_list::<L>(layout.version, layout.max_rep_level, n, page, reps) else {
+    if n > 1024 {
         return None;
-    };
-    let rest = &page[a..];
-    let Some(b) = read_list::<L>(layout.version, layout.max_def_level, n, rest, defs) else {
+    }
+    let rep_form = layout.repetition();
+    let def_form = layout.definition();
+    let rep_count = rep_form.count(n);
+    let def_count = def_form.count(n);
+    if reps.len() < rep_count || defs.len() < def_count {
         return None;
-    };
-    Some(a + b)
+    }
+    let mut rep_room = [0u8; 1024];
+    let mut def_room = [0u8; 1024];
+    let rep_levels = &mut rep_room[..rep_count];
+    let def_levels = &mut def_room[..def_count];
+    let rest = rep_form.read::<L>(n, page, rep_levels)?;
+    let body = def_form.read::<L>(n, rest, def_levels)?;
+    let bytes = B::read(layout.width, body, plain)?;
+    reps[..rep_count].copy_from_slice(rep_levels);
+    defs[..def_count].copy_from_slice(def_levels);
+    Some(PageCounts {
+        levels: n,
+        values: def_form.value_count(n, def_levels),
+        bytes,
+    })
 }

@@ -2,8 +2,7 @@ use bodies::{Plain, Split};
 use body_coder::BodyCoder;
 use level_coder::LevelCoder;
 use levels::{Legacy, Packed};
-use pages::{Layout, assemble, page_size, read_page};
-use std::test::Fail;
+use pages::{Layout, PageCounts, assemble, page_size, read_page};
 
 const LISTS: Layout = Layout {
     version: 1,
@@ -21,11 +20,11 @@ const FIVE_SEVEN: [u8; 8] = [5, 0, 0, 0, 7, 0, 0, 0];
 // Whether a page of two INT32 values is these bytes, has their size, and leaves what is behind it.
 fn makes<L: LevelCoder, B: BodyCoder>(layout: Layout, page: &[u8]) -> bool {
     let mut out = [0xEEu8; 40];
-    let size = page_size::<L, B>(layout, 4, 8);
-    let Some(n) = assemble::<L, B>(layout, &REPS, &DEFS, &FIVE_SEVEN, &mut out) else {
-        return false;
-    };
-    n < 40 && size == Some(n) && &out[0..n] == page && out[n] == 0xEE
+    let size = assemble::<L, B>(layout, &REPS, &DEFS, &FIVE_SEVEN, &mut out);
+    size == Some(page.len())
+        && page_size::<L, B>(layout, 4, 8) == size
+        && out.starts_with(page)
+        && out.get(page.len()) == Some(&0xEE)
 }
 
 // Whether the page reads back as what went in, with the rest of each list as it was.
@@ -33,17 +32,16 @@ fn gives<L: LevelCoder, B: BodyCoder>(layout: Layout, page: &[u8]) -> bool {
     let mut reps = [9u8; 5];
     let mut defs = [9u8; 5];
     let mut plain = [9u8; 9];
-    match read_page::<L, B>(layout, 4, page, &mut reps, &mut defs, &mut plain) {
-        None => false,
-        Some(r) => {
-            r.levels == 4
-                && r.values == 2
-                && r.bytes == 8
-                && reps == [0, 1, 1, 0, 9]
-                && defs == [2, 1, 2, 1, 9]
-                && plain == [5, 0, 0, 0, 7, 0, 0, 0, 9]
-        }
-    }
+    let counts = read_page::<L, B>(layout, 4, page, &mut reps, &mut defs, &mut plain);
+    let whole = PageCounts {
+        levels: 4,
+        values: 2,
+        bytes: 8,
+    };
+    counts == Some(whole)
+        && reps == [0, 1, 1, 0, 9]
+        && defs == [2, 1, 2, 1, 9]
+        && plain == [5, 0, 0, 0, 7, 0, 0, 0, 9]
 }
 
 #[test]
@@ -59,9 +57,7 @@ fn packed_plain_version_1(rt: HostRuntime) {
 fn packed_split_version_2(rt: HostRuntime) {
     let layout = Layout {
         version: 2,
-        max_rep_level: 1,
-        max_def_level: 2,
-        width: 4,
+        ..LISTS
     };
     let page = [3, 6, 3, 0x66, 0, 5, 7, 0, 0, 0, 0, 0, 0];
     assert!(rt; makes::<Packed, Split>(layout, &page));
@@ -76,12 +72,11 @@ fn legacy_version_1(rt: HostRuntime) {
 }
 
 #[test]
-fn nulls_only(rt: HostRuntime) -> Result<(), Fail> {
+fn nulls_only(rt: HostRuntime) {
     let layout = Layout {
-        version: 1,
         max_rep_level: 0,
         max_def_level: 1,
-        width: 4,
+        ..LISTS
     };
     let mut out = [0xEEu8; 8];
     assert_eq!(rt;
@@ -92,15 +87,16 @@ fn nulls_only(rt: HostRuntime) -> Result<(), Fail> {
     let mut reps = [9u8; 1];
     let mut defs = [9u8; 3];
     let mut plain = [9u8; 1];
-    match read_page::<Packed, Plain>(layout, 3, &out[0..6], &mut reps, &mut defs, &mut plain) {
-        None => Err(Fail::new("a page of nulls")),
-        Some(r) => {
-            assert!(rt;
-                r.values == 0 && r.bytes == 0 && defs == [0, 0, 0] && reps == [9] && plain == [9]
-            );
-            Ok(())
-        },
-    }
+    let nulls = PageCounts {
+        levels: 3,
+        values: 0,
+        bytes: 0,
+    };
+    assert_eq!(rt;
+        read_page::<Packed, Plain>(layout, 3, &out[0..6], &mut reps, &mut defs, &mut plain),
+        Some(nulls)
+    );
+    assert!(rt; defs == [0, 0, 0] && reps == [9] && plain == [9]);
 }
 
 #[test]
