@@ -1,6 +1,6 @@
 -- A tally by its places: it is as long as it has levels, and at each level stands how often that occurs.
-use Rattle.std.proofs.Common.{◌≡◌, ℕ, suc, ◌+◌, ◌-◌, ◌^◌, ◌<◌, ◌≤◌, min, Bool, cond, eqb, ltb, ◌≢◌, List, [], ◌∷◌, ◌++◌, length, get_or, set, replicate, Some, None, count_by, sym, refl, ap, ◌∙◌, ⊎_elim, arith}
-use Rattle.std.proofs.lemmas.List.{length_push, ext_get_or, length-set, get_or-set_same, get_or-set_other, get_or-replicate, length-replicate}
+use Rattle.std.proofs.Common.{◌≡◌, ℕ, suc, ◌+◌, ◌-◌, ◌^◌, ◌<◌, ◌≤◌, min, Bool, cond, eqb, ltb, ◌≢◌, List, [], ◌∷◌, ◌++◌, length, get_or, set, replicate, Some, None, count_by, sym, refl, take, add-one, ap, ◌∙◌, ⊎_elim, arith}
+use Rattle.std.proofs.lemmas.List.{length_push, ext_get_or, length-set, get_or-set_same, get_or-set_other, get_or-replicate, length-replicate, take-replicate}
 use Rattle.std.proofs.lemmas.List.Sums.{sum_by_push, count_by-le-length}
 use Rattle.std.proofs.lemmas.Bool.{cases_eq, cases_Bool, eq-eqb, ne_eqb, le-ltb}
 use Rattle.ledger.specs.Pages.{tally, counts}
@@ -70,6 +70,9 @@ one_more-tally k ls level few =
     ∙ omega (arith, new, ap (λ b. count_by (eqb i) ls + cond b 1 0) (ne_eqb i level ne)))
     (cases_eq i level))
 
+pub one_more_joined : (k : ℕ) (ls : List ℕ) (level : ℕ) (old new : List ℕ) → length ls + 1 < 2 ^ 64 → old ≡ tally k ls → new ≡ one_more old level → new ≡ tally k (ls ++ (level ∷ []))
+one_more_joined k ls level old new few e n = n ∙ ap (λ cs. one_more cs level) e ∙ one_more-tally k ls level few
+
 -- two lists of levels
 pub added-tally : (k : ℕ) (xs ys old other new : List ℕ) → length xs + length ys < 2 ^ 64 → old ≡ tally k xs → other ≡ tally k ys
     → Added old other new → new ≡ tally k (xs ++ ys)
@@ -107,3 +110,13 @@ counts_from most xs ys cs new e n =
     (λ t. absurd (none≢some cs (sym (e ∙ ap (λ b. cond b None (Some (tally (suc most) xs))) t))))
     (λ t. ap Some n ∙ sym (ap (λ b. cond b None (Some (tally (suc most) ys))) t))
     (cases_Bool (eqb most 0))
+
+-- the counts of no level, where a maximum wants any
+pub tally_zeros : (n : ℕ) → 0 < n → n ≤ 15 → Some (take (n + 1) (replicate 16 0)) ≡ counts n []
+tally_zeros n some few =
+    ap Some (take-replicate (n + 1) 16 0 (omega arith) ∙ tally_none (n + 1) ∙ ap (λ k. tally k []) (add-one n))
+    ∙ sym (ap (λ b. cond b None (Some (tally (suc n) []))) (ne_eqb n 0 (λ e. omega arith)))
+
+-- where the second list is not counted, nor is the first
+pub counts_joined_none : (most : ℕ) (xs ys : List ℕ) → None ≡ counts most ys → counts most xs ≡ counts most (xs ++ ys)
+counts_joined_none most xs ys e = sym (counts-absent most ys xs e) ∙ counts-absent most ys (xs ++ ys) e
