@@ -2,16 +2,11 @@
 use Rattle.std.proofs.Common.{◌≡◌, ℕ, suc, ◌+◌, ◌-◌, ◌^◌, ◌<◌, ◌≤◌, min, Bool, cond, eqb, ltb, ◌≢◌, List, [], ◌∷◌, ◌++◌, length, get_or, set, replicate, Some, None, count_by, sym, refl, take, add-one, ap, ◌∙◌, ⊎_elim, arith}
 use Rattle.std.proofs.lemmas.List.{length_push, ext_get_or, length-set, get_or-set_same, get_or-set_other, get_or-replicate, length-replicate, take-replicate}
 use Rattle.std.proofs.lemmas.List.Sums.{sum_by_push, count_by-le-length}
+use Rattle.std.proofs.lemmas.Option.{same_Some, none-some}
 use Rattle.std.proofs.lemmas.Bool.{cases_eq, cases_Bool, eq-eqb, ne_eqb, le-ltb}
 use Rattle.ledger.specs.Pages.{tally, counts}
 use Rattle.ledger.proofs.Joining.{length-tally, get_or-tally, count_by-append}
 use Rattle.metrics.specs.Histograms.{one_more, Added}
-
-none≢some : (cs : List ℕ) → None ≡ Some cs → ⊥
-none≢some cs e = let z : ◌≡◌ {A = ℕ} 0 1 = cc in omega arith
-
-same_some : (xs ys : List ℕ) → Some xs ≡ Some ys → xs ≡ ys
-same_some xs ys e = cc
 
 -- a list with the counts of a tally is that tally
 pub tally_from_get_or : (cs : List ℕ) (k : ℕ) (ls : List ℕ) → length cs ≡ k → ((i : ℕ) → i < k → get_or cs i 0 ≡ count_by (eqb i) ls) → cs ≡ tally k ls
@@ -93,21 +88,21 @@ pub counts-absent : (most : ℕ) (xs ys : List ℕ) → None ≡ counts most xs 
 counts-absent most xs ys e =
     ⊎_elim
     (λ t. sym (ap (λ b. cond b None (Some (tally (suc most) ys))) t))
-    (λ t. absurd (none≢some (tally (suc most) xs) (e ∙ ap (λ b. cond b None (Some (tally (suc most) xs))) t)))
+    (λ t. absurd (none-some (tally (suc most) xs) (e ∙ ap (λ b. cond b None (Some (tally (suc most) xs))) t)))
     (cases_Bool (eqb most 0))
 
 -- counts that are there are a tally, and a tally of other levels is then there too
 pub counts_there : (most : ℕ) (xs cs : List ℕ) → Some cs ≡ counts most xs → cs ≡ tally (suc most) xs
 counts_there most xs cs e =
     ⊎_elim
-    (λ t. absurd (none≢some cs (sym (e ∙ ap (λ b. cond b None (Some (tally (suc most) xs))) t))))
-    (λ t. same_some cs (tally (suc most) xs) (e ∙ ap (λ b. cond b None (Some (tally (suc most) xs))) t))
+    (λ t. absurd (none-some cs (sym (e ∙ ap (λ b. cond b None (Some (tally (suc most) xs))) t))))
+    (λ t. same_Some cs (tally (suc most) xs) (e ∙ ap (λ b. cond b None (Some (tally (suc most) xs))) t))
     (cases_Bool (eqb most 0))
 
 pub counts_from : (most : ℕ) (xs ys cs new : List ℕ) → Some cs ≡ counts most xs → new ≡ tally (suc most) ys → Some new ≡ counts most ys
 counts_from most xs ys cs new e n =
     ⊎_elim
-    (λ t. absurd (none≢some cs (sym (e ∙ ap (λ b. cond b None (Some (tally (suc most) xs))) t))))
+    (λ t. absurd (none-some cs (sym (e ∙ ap (λ b. cond b None (Some (tally (suc most) xs))) t))))
     (λ t. ap Some n ∙ sym (ap (λ b. cond b None (Some (tally (suc most) ys))) t))
     (cases_Bool (eqb most 0))
 
