@@ -26,6 +26,7 @@ pub fn check<K: Kind, L: LevelCoder, B: BodyCoder>(
 }
 
 impl Column {
+    // Whether a chunk may hold it.
     fn is_allowed<K: Kind>(self) -> bool
         ensures { result ≡ column_fits K.Kind.meaning self }
     {
@@ -65,7 +66,7 @@ impl Settings {
     }
 }
 
-// A maximum level as a byte, 0 for one that no column may have.
+// A maximum level as a byte. A layout is made of any column, so that 0 stands for a level that none may have.
 fn level_byte(level: i16) -> u8
     ensures { result ≡ level_of level }
 {
@@ -75,7 +76,7 @@ fn level_byte(level: i16) -> u8
         .unwrap_or(0)
 }
 
-// A width, 0 for one that no column may have.
+// A width, and in the same way 0 for one that no column may have.
 fn width_bytes(width: usize) -> usize
     ensures { result ≡ width_of width }
 {

@@ -20,6 +20,7 @@ impl BoundaryOrder {
         self as u8
     }
 
+    // The order that two flags say.
     fn from_flags(ascending: bool, descending: bool) -> BoundaryOrder
         ensures { boundary_number result ≡ boundary_order_of ascending descending }
     {

@@ -14,9 +14,11 @@ pub record Kept (cs : List ℕ) (n : ℕ) : Type 0 where
 abbrev pub filled : List ℕ → List ℕ
 filled cs = cs ++ replicate (16 - length cs) 0
 
+-- what a histogram of these counts holds
 abbrev pub of_counts : List ℕ → Inside
 of_counts cs = record { counts = filled cs; len = length cs }
 
+-- kept counts tell what the histogram holds
 pub of_kept : (h : Inside) → Kept h.counts h.len → of_counts (take h.len h.counts) ≡ h
 of_kept h k =
     let kept : List ℕ = take h.len h.counts in

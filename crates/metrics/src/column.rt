@@ -26,6 +26,7 @@ pub struct ColumnMetrics {
     pub max_column_value: Option<Buffer<128>>,
 }
 
+// The sums do not tell the pages, so that each contract speaks of all pages that have them.
 impl ColumnMetrics {
     // The metrics of a chunk without pages.
     pub fn new(layout: Layout) -> ColumnMetrics
@@ -78,7 +79,8 @@ impl ColumnMetrics {
     }
 }
 
-// The smaller of two smallest values, each of which may be absent.
+// Takes a page's smallest value into the chunk's. This and the largest are two functions, since one that is
+// given the update as a closure says more about the closure than both say about values.
 fn take_min<K: Kind>(all: &mut Option<Buffer<128>>, page: &Option<Buffer<128>>)
     ensures { kept all.new ≡ lesser K.Kind.meaning (kept all.old) (kept page.now) }
 {
@@ -87,6 +89,7 @@ fn take_min<K: Kind>(all: &mut Option<Buffer<128>>, page: &Option<Buffer<128>>)
     }
 }
 
+// Takes a page's largest value into the chunk's.
 fn take_max<K: Kind>(all: &mut Option<Buffer<128>>, page: &Option<Buffer<128>>)
     ensures { kept all.new ≡ higher K.Kind.meaning (kept all.old) (kept page.now) }
 {

@@ -57,6 +57,7 @@ impl PageMetrics {
     }
 }
 
+// More NaN counted, where they are counted at all.
 fn more_nans(count: Option<u64>, nans: u64) -> Option<u64>
     ensures { result ≡ option_map (λ n. min (n + nans) (2 ^ 64 - 1)) count }
 {
