@@ -1,21 +1,13 @@
 -- Tests made in order: which of them is passed over, and what the answer tells of those that were made.
 use Rattle.std.proofs.Common.{◌≡◌, Bool, true, false, cond, List, [], ◌∷◌, ◌++◌, Ok, Err, Result, refl, ap, ◌∙◌}
-use Rattle.std.proofs.lemmas.Bool.{cond-true, cond-false}
+use Rattle.std.proofs.lemmas.Bool.{cond-false}
 use Rattle.std.specs.List.{AllByRecursion}
-use Rattle.refusals.specs.Refusals.{Test, refuses, tested}
+use Rattle.refusals.specs.Refusals.{Test, tested}
 use Rattle.refusals.specs.declared.fault.ChunkFault.{ChunkFault}
 
 -- none of the tests holds
 abbrev pub Passed : List Test → Type 0
 Passed ts = AllByRecursion (λ t. t.holds ≡ false) ts
-
--- a test that holds refuses
-pub tested_yes : {A : Type 0} (b : Bool) (f : ChunkFault) (ts : List Test) (r : Result A ChunkFault) → b ≡ true → tested (refuses b f ∷ ts) r ≡ Err f
-tested_yes b f ts r h = cond-true b (Err f) (tested ts r) h
-
--- one that does not is passed over
-pub tested_no : {A : Type 0} (b : Bool) (f : ChunkFault) (ts : List Test) (r : Result A ChunkFault) → b ≡ false → tested (refuses b f ∷ ts) r ≡ tested ts r
-tested_no b f ts r h = cond-false b (Err f) (tested ts r) h
 
 pub tested-append : {A : Type 0} (xs ys : List Test) (r : Result A ChunkFault) → tested (xs ++ ys) r ≡ tested xs (tested ys r)
 tested-append [] ys r = refl

@@ -1,9 +1,9 @@
 -- A tally by its places: it is as long as it has levels, and at each level stands how often that occurs.
-use Rattle.std.proofs.Common.{◌≡◌, ℕ, suc, ◌+◌, ◌-◌, ◌^◌, ◌<◌, ◌≤◌, min, Bool, cond, eqb, ltb, ◌≢◌, List, [], ◌∷◌, ◌++◌, length, get_or, set, replicate, Some, None, count_by, sym, refl, take, add-one, ap, ◌∙◌, ⊎_elim, arith}
-use Rattle.std.proofs.lemmas.List.{length_push, ext_get_or, length-set, get_or-set_same, get_or-set_other, get_or-replicate, length-replicate, take-replicate}
+use Rattle.std.proofs.Common.{◌≡◌, ℕ, suc, ◌+◌, ◌-◌, ◌^◌, ◌<◌, ◌≤◌, min, Bool, cond, eqb, ◌≢◌, List, [], ◌∷◌, ◌++◌, length, get_or, set, replicate, Some, None, count_by, sym, refl, take, add-one, ap, ◌∙◌, ⊎_elim, arith}
+use Rattle.std.proofs.lemmas.List.{ext_get_or, length-set, get_or-set_same, get_or-set_other, get_or-replicate, length-replicate, take-replicate}
 use Rattle.std.proofs.lemmas.List.Sums.{sum_by_push, count_by-le-length}
 use Rattle.std.proofs.lemmas.Option.{same_Some, none-some}
-use Rattle.std.proofs.lemmas.Bool.{cases_eq, cases_Bool, eq-eqb, ne_eqb, le-ltb}
+use Rattle.std.proofs.lemmas.Bool.{cases_eq, cases_Bool, eq-eqb, ne_eqb}
 use Rattle.ledger.specs.Pages.{tally, counts}
 use Rattle.ledger.proofs.Joining.{length-tally, get_or-tally, count_by-append}
 use Rattle.metrics.specs.Histograms.{one_more, Added}
@@ -21,16 +21,7 @@ count_by_push p xs y = sum_by_push (λ x. cond (p x) 1 0) xs y
 pub min_below : (n : ℕ) → n < 2 ^ 64 → min n (2 ^ 64 - 1) ≡ n
 min_below n h = omega arith
 
--- what is counted of one more, and of two lists
-pub sum_push : (p : ℕ → Bool) (ls : List ℕ) (x n by r : ℕ) → length ls + 1 < 2 ^ 64 → n ≡ count_by p ls → by ≡ cond (p x) 1 0
-    → r ≡ min (n + by) (2 ^ 64 - 1) → r ≡ count_by p (ls ++ (x ∷ []))
-sum_push p ls x n by r few en eb er =
-    let le = count_by-le-length p (ls ++ (x ∷ [])) in
-    let all = length_push ls x in
-    let new = count_by_push p ls x in
-    let e : n + by ≡ count_by p (ls ++ (x ∷ [])) = ap (λ a. a + by) en ∙ ap (λ b. count_by p ls + b) eb ∙ sym new in
-    er ∙ min_below (n + by) (omega (arith, e, le, all, few)) ∙ e
-
+-- what is counted of two lists
 pub sum-joined : {X : Type 0} (p : X → Bool) (xs ys : List X) (a b r : ℕ) → length xs + length ys < 2 ^ 64 → a ≡ count_by p xs → b ≡ count_by p ys
     → r ≡ min (a + b) (2 ^ 64 - 1) → r ≡ count_by p (xs ++ ys)
 sum-joined p xs ys a b r few ea eb er =
@@ -80,9 +71,6 @@ added-tally k xs ys old other new few ex ey a =
     sum-joined (eqb i) xs ys (get_or old i 0) (get_or other i 0) (get_or new i 0) few x y (a.sums i (omega (arith, n, h))))
 
 -- ---- counts that may be absent
-
-pub counts_none : (most : ℕ) → most ≤ 15 → cond (ltb 15 most) None (counts most []) ≡ counts most []
-counts_none most h = ap (λ b. cond b None (counts most [])) (le-ltb 15 most h)
 
 pub counts-absent : (most : ℕ) (xs ys : List ℕ) → None ≡ counts most xs → None ≡ counts most ys
 counts-absent most xs ys e =
