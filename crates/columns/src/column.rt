@@ -1,5 +1,5 @@
 // A column of values of one kind.
-#[derive(Clone, Copy)]
+#[derive(Clone, Copy, PartialEq, Eq, Debug)]
 pub struct Column {
     // bytes of a value, 0 where each has its own length
     pub width: usize,

@@ -6,7 +6,7 @@ pub enum Mode {
 }
 
 // How a chunk is written, besides its two coders.
-#[derive(Clone, Copy)]
+#[derive(Clone, Copy, PartialEq, Eq, Debug)]
 pub struct Settings {
     // of the data page, 1 or 2
     pub version: u8,

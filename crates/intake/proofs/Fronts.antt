@@ -1,5 +1,5 @@
--- The longest front that passes a test: in a repeated value, and in a list that passes whole.
-use Rattle.std.proofs.Common.{◌≡◌, ℕ, zero, suc, ◌+◌, ◌≤◌, Bool, true, false, List, [], ◌∷◌, length, replicate, refl, ◌∙◌, ⊎_elim, arith}
+-- The longest front that passes a test, in a list that passes whole.
+use Rattle.std.proofs.Common.{◌≡◌, ◌+◌, ◌≤◌, Bool, true, false, List, [], ◌∷◌, length, ⊎_elim, arith}
 use Rattle.std.specs.List.{prefix_len, AllByRecursion}
 use Rattle.std.proofs.lemmas.Bool.{cond-true, cond-false, cases_Bool}
 
@@ -9,14 +9,6 @@ module _ {X : Type 0} (p : X → Bool) where
 
   leading_no : (x : X) (xs : List X) → p x ≡ false → prefix_len p (x ∷ xs) ≡ 0
   leading_no x xs h = cond-false (p x) (1 + prefix_len p xs) 0 h
-
-  pub leading_repeated_yes : (n : ℕ) (x : X) → p x ≡ true → prefix_len p (replicate n x) ≡ n
-  leading_repeated_yes zero x h = refl
-  leading_repeated_yes (suc n) x h = leading_yes x (replicate n x) h ∙ omega (arith, leading_repeated_yes n x h)
-
-  pub leading_repeated_no : (n : ℕ) (x : X) → p x ≡ false → prefix_len p (replicate n x) ≡ 0
-  leading_repeated_no zero x h = refl
-  leading_repeated_no (suc n) x h = leading_no x (replicate n x) h
 
   -- a list whose front is as long as it is passes whole
   pub all_from_leading : (xs : List X) → length xs ≤ prefix_len p xs → AllByRecursion (λ x. p x ≡ true) xs

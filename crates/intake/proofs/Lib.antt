@@ -1,5 +1,5 @@
 pub mod Tested
 pub mod Fronts
-pub mod Needed
 pub mod Weights
+pub mod Strays
 pub mod Admits

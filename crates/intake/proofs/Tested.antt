@@ -1,21 +1,13 @@
 -- Tests made in order: which of them is passed over, and what the answer tells of those that were made.
-use Rattle.std.proofs.Common.{◌≡◌, ℕ, Bool, true, false, cond, List, [], ◌∷◌, ◌++◌, Ok, Err, Result, refl, ap, ◌∙◌, arith}
-use Rattle.std.proofs.lemmas.Bool.{cond-true, cond-false}
+use Rattle.std.proofs.Common.{◌≡◌, Bool, true, false, cond, List, [], ◌∷◌, ◌++◌, Ok, Err, Result, refl, ap, ◌∙◌}
+use Rattle.std.proofs.lemmas.Bool.{cond-false}
 use Rattle.std.specs.List.{AllByRecursion}
-use Rattle.refusals.specs.Refusals.{Test, refuses, tested}
+use Rattle.refusals.specs.Refusals.{Test, tested}
 use Rattle.refusals.specs.declared.fault.ChunkFault.{ChunkFault}
 
 -- none of the tests holds
 abbrev pub Passed : List Test → Type 0
 Passed ts = AllByRecursion (λ t. t.holds ≡ false) ts
-
--- a test that holds refuses
-pub tested_yes : {A : Type 0} (b : Bool) (f : ChunkFault) (ts : List Test) (r : Result A ChunkFault) → b ≡ true → tested (refuses b f ∷ ts) r ≡ Err f
-tested_yes b f ts r h = cond-true b (Err f) (tested ts r) h
-
--- one that does not is passed over
-pub tested_no : {A : Type 0} (b : Bool) (f : ChunkFault) (ts : List Test) (r : Result A ChunkFault) → b ≡ false → tested (refuses b f ∷ ts) r ≡ tested ts r
-tested_no b f ts r h = cond-false b (Err f) (tested ts r) h
 
 pub tested-append : {A : Type 0} (xs ys : List Test) (r : Result A ChunkFault) → tested (xs ++ ys) r ≡ tested xs (tested ys r)
 tested-append [] ys r = refl
@@ -34,7 +26,7 @@ passed_right [] ys h = h
 passed_right (x ∷ xs) ys h = passed_right xs ys h.1
 
 ok_past : {A : Type 0} (b : Bool) (f : ChunkFault) (q : Result A ChunkFault) (y : A) → cond b (Err f) q ≡ Ok y → (b ≡ false) × (q ≡ Ok y)
-ok_past true f q y e = absurd (let z : ◌≡◌ {A = ℕ} 0 1 = cc in omega arith)
+ok_past true f q y e = cc
 ok_past false f q y e = (refl, e)
 
 -- where nothing is refused, no test holds, and the answer is the one behind the tests
@@ -54,7 +46,7 @@ err_past false f e q s h k = k h
 
 -- a refusal where nothing behind the tests refuses is one of theirs, whatever else stands behind them
 pub tested_err : {A B : Type 0} (ts : List Test) (x : A) (e : ChunkFault) (s : Result B ChunkFault) → tested ts (Ok x) ≡ Err e → tested ts s ≡ Err e
-tested_err [] x e s h = absurd (let z : ◌≡◌ {A = ℕ} 0 1 = cc in omega arith)
+tested_err [] x e s h = cc
 tested_err (t ∷ ts) x e s h = err_past t.holds t.fault e (tested ts (Ok x)) (tested ts s) h (tested_err ts x e s)
 
 -- where nothing is refused, anything may stand behind the tests

@@ -1,85 +1,77 @@
-ghost use Rattle.std.specs.Prelude.{◌≡◌, map, OnOk};
+ghost use Rattle.std.specs.Prelude.{◌≡◌, OnOk};
 ghost use Rattle.ledger.specs.Batches.{Admitted};
 ghost use Rattle.intake.specs.Admitting.{batch_of, admission, level_admission, value_admission};
 
+use crate::batch::Batch;
 use crate::intake::Intake;
-use crate::levels::{find_stray, is_absent, is_empty, is_late, is_miscounted, needed_count};
-use crate::values::{is_few, is_heavy, weigh};
+use crate::levels::Levels;
+use crate::values::weigh;
 use kinds::{Kind, ValueOf};
-use level_data::LevelDataRef;
 use pages::{Layout, PageFault};
 use refusals::ChunkFault;
 
 // What a batch needs, or the first refusal that it meets by itself.
-pub fn admit<K: Kind, V: ValueOf<K>>(
-    layout: Layout,
-    count: usize,
-    defs: LevelDataRef,
-    reps: LevelDataRef,
-    values: &[V],
-) -> Result<Intake, ChunkFault>
-    ensures answer { result ≡ admission layout (batch_of count defs.entry reps.entry (map V.ValueOf.bytes values.now)) }
-    ensures admits { OnOk result (Admitted layout (batch_of count defs.entry reps.entry (map V.ValueOf.bytes values.now))) }
+pub fn admit<K: Kind, V: ValueOf<K>>(layout: Layout, batch: Batch<V>) -> Result<Intake, ChunkFault>
+    ensures answer { result ≡ admission layout (batch_of V.ValueOf.bytes batch.entry) }
+    ensures admits { OnOk result (Admitted layout (batch_of V.ValueOf.bytes batch.entry)) }
 {
-    admit_levels(layout, count, defs, reps)?;
-    admit_values::<K, V>(layout, count, defs, values)
+    admit_levels::<K, V>(layout, batch)?;
+    admit_values::<K, V>(layout, batch)
 }
 
 // The tests of the levels.
-fn admit_levels(
-    layout: Layout,
-    count: usize,
-    defs: LevelDataRef,
-    reps: LevelDataRef,
-) -> Result<(), ChunkFault>
-    ensures { result ≡ level_admission layout count defs.entry reps.entry }
+fn admit_levels<K: Kind, V: ValueOf<K>>(layout: Layout, batch: Batch<V>) -> Result<(), ChunkFault>
+    ensures { result ≡ level_admission layout (batch_of V.ValueOf.bytes batch.entry) }
 {
-    if count > 256 {
+    let defs = Levels {
+        given: batch.defs,
+        max: layout.max_def_level,
+    };
+    let reps = Levels {
+        given: batch.reps,
+        max: layout.max_rep_level,
+    };
+    if batch.count > 256 {
         return Err(ChunkFault::BatchLevels);
     }
-    if is_absent(layout.max_def_level, defs) || is_empty(layout.max_rep_level, reps) {
+    if defs.is_absent() || reps.is_empty() {
         return Err(ChunkFault::LevelsAbsent);
     }
-    if is_miscounted(layout.max_def_level, count, defs)
-        || is_miscounted(layout.max_rep_level, count, reps)
-    {
+    if defs.is_miscounted(batch.count) || reps.is_miscounted(batch.count) {
         return Err(ChunkFault::LevelCount);
     }
-    if let Some(at) = find_stray(layout.max_def_level, defs) {
+    if let Some(at) = defs.find_stray() {
         return Err(ChunkFault::LevelRange(at));
     }
-    if let Some(at) = find_stray(layout.max_rep_level, reps) {
+    if let Some(at) = reps.find_stray() {
         return Err(ChunkFault::LevelRange(at));
     }
-    if is_late(layout.max_rep_level, reps) {
+    if reps.is_late() {
         return Err(ChunkFault::FirstRepetition);
     }
     Ok(())
 }
 
 // The tests of the values that are needed.
+#[tactic(auto, using(crate::proofs::Admits::value_steps))]
 fn admit_values<K: Kind, V: ValueOf<K>>(
     layout: Layout,
-    count: usize,
-    defs: LevelDataRef,
-    values: &[V],
+    batch: Batch<V>,
 ) -> Result<Intake, ChunkFault>
-    ensures { result ≡ value_admission layout count defs.entry (map V.ValueOf.bytes values.now) }
+    ensures { result ≡ value_admission layout (batch_of V.ValueOf.bytes batch.entry) }
 {
-    let needed = needed_count(layout.max_def_level, count, defs);
-    if is_few(values.len(), needed) {
-        return Err(ChunkFault::FewValues);
+    let defs = Levels {
+        given: batch.defs,
+        max: layout.max_def_level,
+    };
+    let needed = defs.needed_count(batch.count);
+    let values = batch.values.get(..needed).ok_or(ChunkFault::FewValues)?;
+    let plain = weigh::<K, V>(layout.width, values)?;
+    if plain > 4096 {
+        return Err(ChunkFault::Page(PageFault::PlainBytes));
     }
-    match weigh::<K, V>(layout.width, &values[0..needed]) {
-        Ok(plain) => {
-            if is_heavy(plain) {
-                return Err(ChunkFault::Page(PageFault::PlainBytes));
-            }
-            Ok(Intake {
-                values: needed,
-                plain,
-            })
-        }
-        Err(at) => Err(ChunkFault::ValueLength(at)),
-    }
+    Ok(Intake {
+        values: needed,
+        plain,
+    })
 }

@@ -4,9 +4,11 @@
 #![tactic(auto)]
 
 mod admission;
+mod batch;
 mod intake;
 mod levels;
 mod values;
 
 pub use admission::admit;
+pub use batch::Batch;
 pub use intake::Intake;

@@ -2,10 +2,10 @@
 -- the one over to the other.
 use Rattle.std.proofs.Common.{◌≡◌, ℕ, zero, suc, ◌<◌, Bool, true, false, cond, not, ◌⊎◌, List, [], ◌∷◌, length, get_or, Some, None, Option, sym, refl, ap, ◌∙◌, subst, ⊎_elim, arith}
 use Rattle.std.proofs.ByRecursion.{All-get_or}
+use Rattle.std.proofs.lemmas.Option.{same_Some}
 use Rattle.std.proofs.lemmas.Bool.{cases_Bool, or_parts, both_ways, not-true, true≢false}
-use Rattle.std.specs.List.{AllByRecursion}
+use Rattle.std.specs.List.{AllByRecursion, list_any, filter, find}
 use Rattle.kinds.specs.Meaning.{Meaning, greater}
-use Rattle.std.specs.List.{list_any, filter, find}
 use Rattle.figures.specs.Figures.{lowest, smallest, largest, replaces}
 use Rattle.figures.proofs.Lowest.{Test, Weak, picked, lowest-cons}
 use Rattle.figures.proofs.Joined.{weak_behind, lowest_behind, weak_greater, weak_less}
@@ -15,24 +15,21 @@ use Rattle.ledger.specs.Laws.{Spoken, PageEncloses, BoundsEnclose}
 
 -- ---- the lowest of a list
 
-some_same : (a b : List ℕ) → ◌≡◌ {A = Option (List ℕ)} (Some a) (Some b) → a ≡ b
-some_same a b e = cc
-
 -- the first that passes does pass
 first_passes : (p : List ℕ → Bool) (vs : List (List ℕ)) (s : List ℕ) → find p vs ≡ Some s → p s ≡ true
-first_passes p [] s e = let z : ◌≡◌ {A = ℕ} 0 1 = cc in absurd (omega arith)
+first_passes p [] s e = cc
 first_passes p (v ∷ vs) s e =
     ⊎_elim
-    (λ h. ap p (sym (some_same v s (ap (λ b. cond b (Some v) (find p vs)) (sym h) ∙ e))) ∙ h)
+    (λ h. ap p (sym (same_Some v s (ap (λ b. cond b (Some v) (find p vs)) (sym h) ∙ e))) ∙ h)
     (λ h. first_passes p vs s (ap (λ b. cond b (Some v) (find p vs)) (sym h) ∙ e))
     (cases_Bool (p v))
 
 -- what holds of each member holds of it
 first_holds : (P : List ℕ → Type 0) (p : List ℕ → Bool) (vs : List (List ℕ)) (s : List ℕ) → AllByRecursion P vs → find p vs ≡ Some s → P s
-first_holds P p [] s all e = let z : ◌≡◌ {A = ℕ} 0 1 = cc in absurd (omega arith)
+first_holds P p [] s all e = cc
 first_holds P p (v ∷ vs) s all e =
     ⊎_elim
-    (λ h. subst P (some_same v s (ap (λ b. cond b (Some v) (find p vs)) (sym h) ∙ e)) all.0)
+    (λ h. subst P (same_Some v s (ap (λ b. cond b (Some v) (find p vs)) (sym h) ∙ e)) all.0)
     (λ h. first_holds P p vs s all.1 (ap (λ b. cond b (Some v) (find p vs)) (sym h) ∙ e))
     (cases_Bool (p v))
 

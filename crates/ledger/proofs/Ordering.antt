@@ -2,6 +2,7 @@
 -- the last one there before it.
 use Rattle.std.proofs.Common.{◌≡◌, ℕ, zero, suc, ◌<◌, ◌≤◌, Bool, true, false, not, List, [], ◌∷◌, ◌++◌, map, length, get_or, Some, None, Option, sym, refl, ap, ◌∙◌, subst, subst₂, ⊎_elim, arith}
 use Rattle.std.proofs.lemmas.List.{get_or_past, nil_from_length}
+use Rattle.std.proofs.lemmas.Option.{same_Some, none-some}
 use Rattle.std.proofs.lemmas.Bool.{and_parts, and_from, not-true, not_from_false, cases_lt, cases_eq, both_ways}
 use Rattle.kinds.specs.Meaning.{Meaning, greater}
 use Rattle.flags.specs.Flags.{Pair, rises, falls, along_from, along, ascending, descending}
@@ -14,12 +15,6 @@ use Rattle.ledger.specs.Laws.{InOrder, NotAbove, Rises, Ascends, Descends, Store
 use Rattle.ledger.proofs.Enclosing.{smallest_there, largest_there, not_greater_on}
 
 -- ---- pairs that may be absent
-
-same_pair : (a b : Pair) → ◌≡◌ {A = Option Pair} (Some a) (Some b) → a ≡ b
-same_pair a b e = cc
-
-none_some : (a : Pair) → ◌≡◌ {A = Option Pair} None (Some a) → ⊥
-none_some a e = let z : ◌≡◌ {A = ℕ} 0 1 = cc in omega arith
 
 -- those that are there
 abbrev somes : List (Option Pair) → List Pair
@@ -38,22 +33,22 @@ module _ (r : Pair → Pair → Bool) where
       → r p q ≡ true
 
   follows_absent : (a : Pair) (os : List (Option Pair)) → Follows a os → Follows a (None ∷ os)
-  follows_absent a os f zero q e gap = absurd (none_some q e)
+  follows_absent a os f zero q e gap = absurd (none-some q e)
   follows_absent a os f (suc k) q e gap = f k q e (λ i h. gap (suc i) (omega (arith, h)))
 
   follows_there : (a b : Pair) (os : List (Option Pair)) → r a b ≡ true → Follows a (Some b ∷ os)
-  follows_there a b os h zero q e gap = ap (r a) (sym (same_pair b q e)) ∙ h
-  follows_there a b os h (suc k) q e gap = absurd (none_some b (sym (gap 0 (omega arith))))
+  follows_there a b os h zero q e gap = ap (r a) (sym (same_Some b q e)) ∙ h
+  follows_there a b os h (suc k) q e gap = absurd (none-some b (sym (gap 0 (omega arith))))
 
   steps_absent : (os : List (Option Pair)) → Steps os → Steps (None ∷ os)
-  steps_absent os s zero k p q l e d gap = absurd (none_some p e)
+  steps_absent os s zero k p q l e d gap = absurd (none-some p e)
   steps_absent os s (suc j) zero p q l e d gap = absurd (omega (arith, l))
   steps_absent os s (suc j) (suc k) p q l e d gap = s j k p q (omega (arith, l)) e d (λ i h g. gap (suc i) (omega (arith, h)) (omega (arith, g)))
 
   steps_there : (b : Pair) (os : List (Option Pair)) → Follows b os → Steps os → Steps (Some b ∷ os)
   steps_there b os f s zero zero p q l e d gap = absurd (omega (arith, l))
   steps_there b os f s zero (suc k) p q l e d gap =
-      ap (λ x. r x q) (sym (same_pair b p e)) ∙ f k q d (λ i h. gap (suc i) (omega arith) (omega (arith, h)))
+      ap (λ x. r x q) (sym (same_Some b p e)) ∙ f k q d (λ i h. gap (suc i) (omega arith) (omega (arith, h)))
   steps_there b os f s (suc j) zero p q l e d gap = absurd (omega (arith, l))
   steps_there b os f s (suc j) (suc k) p q l e d gap = s j k p q (omega (arith, l)) e d (λ i h g. gap (suc i) (omega (arith, h)) (omega (arith, g)))
 
@@ -78,7 +73,7 @@ module _ (r : Pair → Pair → Bool) where
       first-gap os k gap (suc i) h = gap i (omega (arith, h))
 
   along_from-then : (a : Pair) (os : List (Option Pair)) → along_from r a (somes os) ≡ true → Follows a os × Steps os
-  along_from-then a [] h = ((λ k q e gap. absurd (none_some q e)), (λ j k p q l e d gap. absurd (none_some p e)))
+  along_from-then a [] h = ((λ k q e gap. absurd (none-some q e)), (λ j k p q l e d gap. absurd (none-some p e)))
   along_from-then a (None ∷ os) h =
       let rest = along_from-then a os h in
       (follows_absent a os rest.0, steps_absent os rest.1)
@@ -88,7 +83,7 @@ module _ (r : Pair → Pair → Bool) where
       (follows_there a b os parts.0, steps_there b os rest.0 rest.1)
 
   along_then : (os : List (Option Pair)) → along r (somes os) ≡ true → Steps os
-  along_then [] h = λ j k p q l e d gap. absurd (none_some p e)
+  along_then [] h = λ j k p q l e d gap. absurd (none-some p e)
   along_then (None ∷ os) h = steps_absent os (along_then os h)
   along_then (Some b ∷ os) h = let rest = along_from-then b os h in steps_there b os rest.0 rest.1
 
@@ -122,11 +117,11 @@ module _ (pair : Page → Option Pair) (r : Pair → Pair → Bool) (Stands : Pa
   -- a page with a pair has values, and one without has none
   valued : (p : Page) (a : Pair) → pair p ≡ Some a → 0 < length p.values
   valued p a e =
-      ⊎_elim (λ h. h) (λ h. absurd (none_some a (sym (reading.absent p (omega (arith, h))) ∙ e))) (cases_lt 0 (length p.values))
+      ⊎_elim (λ h. h) (λ h. absurd (none-some a (sym (reading.absent p (omega (arith, h))) ∙ e))) (cases_lt 0 (length p.values))
 
   unvalued : (p : Page) → pair p ≡ None → length p.values ≡ 0
   unvalued p e =
-      ⊎_elim (λ h. let found = reading.there p h in absurd (none_some found.0 (sym e ∙ found.1))) (λ h. omega (arith, h)) (cases_lt 0 (length p.values))
+      ⊎_elim (λ h. let found = reading.there p h in absurd (none-some found.0 (sym e ∙ found.1))) (λ h. omega (arith, h)) (cases_lt 0 (length p.values))
 
   within : (ps : List Page) (k : ℕ) → 0 < length (get_or ps k blank).values → k < length ps
   within ps k h =
@@ -183,10 +178,10 @@ value_pairs_somes m (p ∷ ps) =
     ∙ somes_pair_if (smallest m p.values) (largest m p.values) (map (figure_pair m) ps)
 
 paired_parts : (lo hi : Option (List ℕ)) (a : Pair) → paired lo hi ≡ Some a → (lo ≡ Some a.low) × (hi ≡ Some a.high)
-paired_parts None hi a e = absurd (none_some a e)
-paired_parts (Some lo) None a e = absurd (none_some a e)
+paired_parts None hi a e = absurd (none-some a e)
+paired_parts (Some lo) None a e = absurd (none-some a e)
 paired_parts (Some lo) (Some hi) a e =
-    let is = same_pair (record { low = lo; high = hi }) a e in
+    let is = same_Some (record { low = lo; high = hi }) a e in
     (ap (λ x. Some x.low) is, ap (λ x. Some x.high) is)
 
 module _ (m : Meaning) where
@@ -265,10 +260,10 @@ stored_pairs_somes m cut (p ∷ ps) =
 
 stored_parts : (m : Meaning) (cut : Option ℕ) (lo hi : Option (List ℕ)) (a : Pair) → stored m cut lo hi ≡ Some a
     → ((lower m cut lo).bytes ≡ a.low) × ((upper m cut hi).bytes ≡ a.high)
-stored_parts m cut None hi a e = absurd (none_some a e)
-stored_parts m cut (Some lo) None a e = absurd (none_some a e)
+stored_parts m cut None hi a e = absurd (none-some a e)
+stored_parts m cut (Some lo) None a e = absurd (none-some a e)
 stored_parts m cut (Some lo) (Some hi) a e =
-    let is = same_pair (record { low = (lower m cut (Some lo)).bytes; high = (upper m cut (Some hi)).bytes }) a e in
+    let is = same_Some (record { low = (lower m cut (Some lo)).bytes; high = (upper m cut (Some hi)).bytes }) a e in
     (ap (λ x. x.low) is, ap (λ x. x.high) is)
 
 module _ (m : Meaning) (cut : Option ℕ) where

@@ -9,6 +9,8 @@ use Rattle.ledger.specs.Context.{Context, layout, bytes}
 use Rattle.ledger.specs.Entries.{lower, upper}
 use Rattle.ledger.specs.Figures.{Figures, figures}
 use Rattle.ledger.specs.Pages.{Page, joined}
+use Rattle.ledger.specs.declared.order.BoundaryOrder.{BoundaryOrder}
+use Rattle.ledger.specs.declared.order.BoundaryOrder.TheVariants.{Unordered, Ascending, Descending}
 
 -- the pair of a page that has values, and none of a null page
 abbrev pub pair_if : Option (List ℕ) → Option (List ℕ) → List Pair
@@ -38,6 +40,13 @@ pub record Order : Type 0 where
   -- 0 unordered, 1 ascending, 2 descending
   pub boundary : ℕ
 
+-- the number that the format has for a boundary order
+abbrev pub boundary_number : BoundaryOrder → ℕ
+boundary_number Unordered = 0
+boundary_number Ascending = 1
+boundary_number Descending = 2
+
+-- the number of the order that two flags say: bounds that ascend are ascending, whether they descend or not
 abbrev pub boundary_order_of : Bool → Bool → ℕ
 boundary_order_of up down = cond up 1 (cond down 2 0)
 

@@ -6,5 +6,5 @@
 mod order;
 mod phase;
 
-pub use order::boundary_order;
+pub use order::{BoundaryOrder, boundary_order};
 pub use phase::Phase;

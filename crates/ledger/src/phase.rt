@@ -2,7 +2,7 @@ ghost use Rattle.std.specs.Prelude.{◌≡◌};
 ghost use Rattle.ledger.specs.Ledger.{is_open, has_record};
 
 // Where a chunk stands between its opening and its end.
-#[derive(Clone, Copy)]
+#[derive(Clone, Copy, PartialEq, Eq, Debug)]
 pub enum Phase {
     Open,
     Closed,
@@ -14,20 +14,12 @@ impl Phase {
     pub fn is_open(self) -> bool
         ensures { result ≡ is_open self }
     {
-        match self {
-            Phase::Open => true,
-            Phase::Closed => false,
-            Phase::Refused => false,
-        }
+        self == Phase::Open
     }
 
     pub fn has_record(self) -> bool
         ensures { result ≡ has_record self }
     {
-        match self {
-            Phase::Open => false,
-            Phase::Closed => true,
-            Phase::Refused => false,
-        }
+        self == Phase::Closed
     }
 }

@@ -1,17 +1,12 @@
 -- A tally by its places: it is as long as it has levels, and at each level stands how often that occurs.
-use Rattle.std.proofs.Common.{◌≡◌, ℕ, suc, ◌+◌, ◌-◌, ◌^◌, ◌<◌, ◌≤◌, min, Bool, cond, eqb, ltb, ◌≢◌, List, [], ◌∷◌, ◌++◌, length, get_or, set, replicate, Some, None, count_by, sym, refl, ap, ◌∙◌, ⊎_elim, arith}
-use Rattle.std.proofs.lemmas.List.{length_push, ext_get_or, length-set, get_or-set_same, get_or-set_other, get_or-replicate, length-replicate}
+use Rattle.std.proofs.Common.{◌≡◌, ℕ, suc, ◌+◌, ◌-◌, ◌^◌, ◌<◌, ◌≤◌, min, Bool, cond, eqb, ◌≢◌, List, [], ◌∷◌, ◌++◌, length, get_or, set, replicate, Some, None, count_by, sym, refl, take, add-one, ap, ◌∙◌, ⊎_elim, arith}
+use Rattle.std.proofs.lemmas.List.{ext_get_or, length-set, get_or-set_same, get_or-set_other, get_or-replicate, length-replicate, take-replicate}
 use Rattle.std.proofs.lemmas.List.Sums.{sum_by_push, count_by-le-length}
-use Rattle.std.proofs.lemmas.Bool.{cases_eq, cases_Bool, eq-eqb, ne_eqb, le-ltb}
+use Rattle.std.proofs.lemmas.Option.{same_Some, none-some}
+use Rattle.std.proofs.lemmas.Bool.{cases_eq, cases_Bool, eq-eqb, ne_eqb}
 use Rattle.ledger.specs.Pages.{tally, counts}
 use Rattle.ledger.proofs.Joining.{length-tally, get_or-tally, count_by-append}
 use Rattle.metrics.specs.Histograms.{one_more, Added}
-
-none≢some : (cs : List ℕ) → None ≡ Some cs → ⊥
-none≢some cs e = let z : ◌≡◌ {A = ℕ} 0 1 = cc in omega arith
-
-same_some : (xs ys : List ℕ) → Some xs ≡ Some ys → xs ≡ ys
-same_some xs ys e = cc
 
 -- a list with the counts of a tally is that tally
 pub tally_from_get_or : (cs : List ℕ) (k : ℕ) (ls : List ℕ) → length cs ≡ k → ((i : ℕ) → i < k → get_or cs i 0 ≡ count_by (eqb i) ls) → cs ≡ tally k ls
@@ -26,16 +21,7 @@ count_by_push p xs y = sum_by_push (λ x. cond (p x) 1 0) xs y
 pub min_below : (n : ℕ) → n < 2 ^ 64 → min n (2 ^ 64 - 1) ≡ n
 min_below n h = omega arith
 
--- what is counted of one more, and of two lists
-pub sum_push : (p : ℕ → Bool) (ls : List ℕ) (x n by r : ℕ) → length ls + 1 < 2 ^ 64 → n ≡ count_by p ls → by ≡ cond (p x) 1 0
-    → r ≡ min (n + by) (2 ^ 64 - 1) → r ≡ count_by p (ls ++ (x ∷ []))
-sum_push p ls x n by r few en eb er =
-    let le = count_by-le-length p (ls ++ (x ∷ [])) in
-    let all = length_push ls x in
-    let new = count_by_push p ls x in
-    let e : n + by ≡ count_by p (ls ++ (x ∷ [])) = ap (λ a. a + by) en ∙ ap (λ b. count_by p ls + b) eb ∙ sym new in
-    er ∙ min_below (n + by) (omega (arith, e, le, all, few)) ∙ e
-
+-- what is counted of two lists
 pub sum-joined : {X : Type 0} (p : X → Bool) (xs ys : List X) (a b r : ℕ) → length xs + length ys < 2 ^ 64 → a ≡ count_by p xs → b ≡ count_by p ys
     → r ≡ min (a + b) (2 ^ 64 - 1) → r ≡ count_by p (xs ++ ys)
 sum-joined p xs ys a b r few ea eb er =
@@ -70,6 +56,9 @@ one_more-tally k ls level few =
     ∙ omega (arith, new, ap (λ b. count_by (eqb i) ls + cond b 1 0) (ne_eqb i level ne)))
     (cases_eq i level))
 
+pub one_more_joined : (k : ℕ) (ls : List ℕ) (level : ℕ) (old new : List ℕ) → length ls + 1 < 2 ^ 64 → old ≡ tally k ls → new ≡ one_more old level → new ≡ tally k (ls ++ (level ∷ []))
+one_more_joined k ls level old new few e n = n ∙ ap (λ cs. one_more cs level) e ∙ one_more-tally k ls level few
+
 -- two lists of levels
 pub added-tally : (k : ℕ) (xs ys old other new : List ℕ) → length xs + length ys < 2 ^ 64 → old ≡ tally k xs → other ≡ tally k ys
     → Added old other new → new ≡ tally k (xs ++ ys)
@@ -83,27 +72,34 @@ added-tally k xs ys old other new few ex ey a =
 
 -- ---- counts that may be absent
 
-pub counts_none : (most : ℕ) → most ≤ 15 → cond (ltb 15 most) None (counts most []) ≡ counts most []
-counts_none most h = ap (λ b. cond b None (counts most [])) (le-ltb 15 most h)
-
 pub counts-absent : (most : ℕ) (xs ys : List ℕ) → None ≡ counts most xs → None ≡ counts most ys
 counts-absent most xs ys e =
     ⊎_elim
     (λ t. sym (ap (λ b. cond b None (Some (tally (suc most) ys))) t))
-    (λ t. absurd (none≢some (tally (suc most) xs) (e ∙ ap (λ b. cond b None (Some (tally (suc most) xs))) t)))
+    (λ t. absurd (none-some (tally (suc most) xs) (e ∙ ap (λ b. cond b None (Some (tally (suc most) xs))) t)))
     (cases_Bool (eqb most 0))
 
 -- counts that are there are a tally, and a tally of other levels is then there too
 pub counts_there : (most : ℕ) (xs cs : List ℕ) → Some cs ≡ counts most xs → cs ≡ tally (suc most) xs
 counts_there most xs cs e =
     ⊎_elim
-    (λ t. absurd (none≢some cs (sym (e ∙ ap (λ b. cond b None (Some (tally (suc most) xs))) t))))
-    (λ t. same_some cs (tally (suc most) xs) (e ∙ ap (λ b. cond b None (Some (tally (suc most) xs))) t))
+    (λ t. absurd (none-some cs (sym (e ∙ ap (λ b. cond b None (Some (tally (suc most) xs))) t))))
+    (λ t. same_Some cs (tally (suc most) xs) (e ∙ ap (λ b. cond b None (Some (tally (suc most) xs))) t))
     (cases_Bool (eqb most 0))
 
 pub counts_from : (most : ℕ) (xs ys cs new : List ℕ) → Some cs ≡ counts most xs → new ≡ tally (suc most) ys → Some new ≡ counts most ys
 counts_from most xs ys cs new e n =
     ⊎_elim
-    (λ t. absurd (none≢some cs (sym (e ∙ ap (λ b. cond b None (Some (tally (suc most) xs))) t))))
+    (λ t. absurd (none-some cs (sym (e ∙ ap (λ b. cond b None (Some (tally (suc most) xs))) t))))
     (λ t. ap Some n ∙ sym (ap (λ b. cond b None (Some (tally (suc most) ys))) t))
     (cases_Bool (eqb most 0))
+
+-- the counts of no level, where a maximum wants any
+pub tally_zeros : (n : ℕ) → 0 < n → n ≤ 15 → Some (take (n + 1) (replicate 16 0)) ≡ counts n []
+tally_zeros n some few =
+    ap Some (take-replicate (n + 1) 16 0 (omega arith) ∙ tally_none (n + 1) ∙ ap (λ k. tally k []) (add-one n))
+    ∙ sym (ap (λ b. cond b None (Some (tally (suc n) []))) (ne_eqb n 0 (λ e. omega arith)))
+
+-- where the second list is not counted, nor is the first
+pub counts_joined_none : (most : ℕ) (xs ys : List ℕ) → None ≡ counts most ys → counts most xs ≡ counts most (xs ++ ys)
+counts_joined_none most xs ys e = sym (counts-absent most ys xs e) ∙ counts-absent most ys (xs ++ ys) e

@@ -1,15 +1,5 @@
 -- Level histograms, as the format's SizeStatistics has them: a count for each level from 0 to the maximum.
-use Rattle.std.specs.Prelude.{◌≡◌, ℕ, ◌+◌, ◌-◌, ◌^◌, ◌<◌, min, List, length, take, Some, None, Option, slice_index, slice_set}
-use Rattle.metrics.specs.declared.histogram.LevelHistogram.{LevelHistogram}
-
--- the counts of a histogram, that of level 0 first
-abbrev pub counted : LevelHistogram → List ℕ
-counted h = take h.len h.counts
-
--- the counts of one that may be absent
-abbrev pub shown : Option LevelHistogram → Option (List ℕ)
-shown None = None
-shown (Some h) = Some (counted h)
+use Rattle.std.specs.Prelude.{◌≡◌, ℕ, ◌+◌, ◌-◌, ◌^◌, ◌<◌, min, List, length, slice_index, slice_set}
 
 -- counts with one more at a level; the highest count stays, and a level without a count changes none
 abbrev pub one_more : List ℕ → ℕ → List ℕ

@@ -1,2 +1,3 @@
 pub mod Histograms
 pub mod Metrics
+pub mod Kept

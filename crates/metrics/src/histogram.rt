@@ -1,10 +1,107 @@
-ghost use Rattle.std.specs.Prelude.{◌≡◌, ℕ, ◌≤◌, length};
+ghost use Rattle.std.specs.Prelude.{◌≡◌, ℕ, ◌+◌, ◌-◌, ◌^◌, ◌<◌, ◌≤◌, min, List, [], ◌∷◌, ◌++◌, length, if◌then◌else◌, None, nat_lt, slice_index};
+ghost use Rattle.ledger.specs.Pages.{tally, counts};
+ghost use Rattle.metrics.specs.Histograms.{one_more, Added};
 
-// A count for each level from 0 to the maximum.
-#[derive(Clone, Copy)]
+use std::marker::Model;
+
+// A count for each level from 0 to the maximum. A contract sees the list of the counts, that of level 0 first.
+#[derive(Clone, Copy, PartialEq, Eq, Debug)]
 pub struct LevelHistogram {
-    pub(crate) counts: [u64; 16],
-    pub(crate) len: usize,
-    ghost few: { len ≤ 16 },
-    ghost wide: { length counts ≡ 16 },
+    counts: [u64; 16],
+    len: usize,
+}
+
+impl Model for LevelHistogram {
+    ghost use Rattle.std.specs.Prelude.{ℕ, List, take};
+
+    ghost Value = { List ℕ };
+
+    ghost use Rattle.metrics.specs.Kept.{Kept, of_counts, of_kept};
+
+    ghost view = { λ h. take h.len h.counts };
+
+    ghost invariant = { λ h. Kept h.counts h.len };
+
+    ghost inverse = { of_counts };
+
+    ghost inverse_ok = { of_kept };
+}
+
+impl LevelHistogram {
+    // Absent for a maximum of 0, which wants no counts, and above 15.
+    #[tactic(auto, using(crate::proofs::Tallies::tally_zeros))]
+    pub fn try_new(max_level: u8) -> Option<LevelHistogram>
+        ensures value { result ≡ (if nat_lt 15 max_level then None else counts max_level []) }
+        ensures within { max_level ≤ 15 → result ≡ counts max_level [] }
+    {
+        if !(1..=15).contains(&max_level) {
+            return None;
+        }
+        Some(LevelHistogram {
+            counts: [0; 16],
+            len: usize::from(max_level) + 1,
+        })
+    }
+
+    // Counts one level more. One above the maximum is not counted.
+    pub fn update(&mut self, level: u8)
+        ensures value { self.new ≡ one_more self.old level }
+        ensures joined { (k : ℕ) (ls : List ℕ) → length ls + 1 < 2 ^ 64 → self.old ≡ tally k ls → self.new ≡ tally k (ls ++ (level ∷ [])) }
+    {
+        count_level(&mut self.counts[..self.len], level);
+    }
+
+    // Adds the counts of another histogram, level by level.
+    pub fn add_histogram(&mut self, other: &LevelHistogram)
+        ensures value { Added self.old other.now self.new }
+        ensures joined { (k : ℕ) (xs ys : List ℕ) → length xs + length ys < 2 ^ 64 → self.old ≡ tally k xs → other.now ≡ tally k ys → self.new ≡ tally k (xs ++ ys) }
+    {
+        add_counts(&mut self.counts[..self.len], other.as_slice());
+    }
+
+    // The counts, that of level 0 first.
+    pub fn as_slice(&self) -> &[u64]
+        ensures { result.now ≡ self.now }
+    {
+        &self.counts[..self.len]
+    }
+}
+
+// Counts one level more, up to the highest count. One that has no count is not counted.
+fn count_level(counts: &mut [u64], level: u8)
+    ensures { counts.new ≡ one_more counts.old level }
+{
+    // by index, since a proof loses the counts after a `get_mut`
+    let place = usize::from(level);
+    if place < counts.len() {
+        counts[place] = counts[place].saturating_add(1);
+    }
+}
+
+// Adds other counts to counts, place by place, up to the highest count.
+fn add_counts(counts: &mut [u64], others: &[u64])
+    ensures { Added counts.old others.now counts.new }
+{
+    // by place, since a proof loses the counts under a `zip` of an `iter_mut`
+    for (level, count) in counts.iter_mut().enumerate() {
+        *count = count.saturating_add(others.get(level).copied().unwrap_or(0));
+    }
+}
+
+// Counts one level more in a histogram that may be absent.
+pub(crate) fn update_if_there(histogram: &mut Option<LevelHistogram>, level: u8)
+    ensures { (most : ℕ) (ls : List ℕ) → length ls + 1 < 2 ^ 64 → histogram.old ≡ counts most ls → histogram.new ≡ counts most (ls ++ (level ∷ [])) }
+{
+    if let Some(histogram) = histogram {
+        histogram.update(level);
+    }
+}
+
+// Adds a page's histogram to a chunk's, where both are there.
+pub(crate) fn add_if_there(all: &mut Option<LevelHistogram>, page: &Option<LevelHistogram>)
+    ensures { (most : ℕ) (xs ys : List ℕ) → length xs + length ys < 2 ^ 64 → all.old ≡ counts most xs → page.now ≡ counts most ys → all.new ≡ counts most (xs ++ ys) }
+{
+    if let (Some(all), Some(page)) = (all, page) {
+        all.add_histogram(page);
+    }
 }

@@ -4,11 +4,8 @@
 #![tactic(auto)]
 
 mod column;
-mod column_methods;
 mod histogram;
-mod histogram_methods;
 mod page;
-mod page_methods;
 
 pub use column::ColumnMetrics;
 pub use histogram::LevelHistogram;

@@ -1,10 +1,6 @@
-use Rattle.std.proofs.Common.{◌≡◌, ◌+◌, ◌-◌, ◌^◌, min, map, length, take, drop}
-use Rattle.std.specs.List.{prefix_len}
-use Rattle.kinds.specs.Plain.{sized}
-use Rattle.ledger.specs.Pages.{plains}
+use Rattle.std.proofs.Common.{map}
+use Rattle.intake.proofs.Weights.{SoFar}
 use Rattle.intake.proofs.values.weigh.Given as goal
 
-abbrev pub invariant-loop-i : goal.invariant-loop-i
-invariant-loop-i g l =
-    (l.sum ≡ min (length (plains l.width (take l.i (map g.V.ValueOf.bytes l.values)))) (2 ^ 64 - 1))
-    × (l.i + prefix_len (sized l.width) (drop l.i (map g.V.ValueOf.bytes l.values)) ≡ prefix_len (sized l.width) (map g.V.ValueOf.bytes l.values))
+abbrev pub invariant-loop-at : goal.invariant-loop-at
+invariant-loop-at g l = SoFar l.width (map g.V.ValueOf.bytes l.values) l.at l.sum

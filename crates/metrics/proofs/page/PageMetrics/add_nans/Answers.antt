@@ -6,7 +6,7 @@ use Rattle.metrics.proofs.Nans.{entry-joined}
 use Rattle.metrics.proofs.page.PageMetrics.add_nans.Goals as goal
 
 pub returns : goal.returns
-returns c m l p vs is few t =
+returns c = λ m l p vs is few t.
     let reps = sym (append-nil p.reps) in
     let defs = sym (append-nil p.defs) in
     record {
