@@ -12,13 +12,13 @@ abbrev pub Appended : ℕ → List ℕ → List ℕ → List ℕ → Option (Uni
 Appended n old bs new (Some _) = (length old + length bs ≤ n) × (new ≡ old ++ bs)
 Appended n old bs new None = (n < length old + length bs) × (new ≡ old)
 
--- of n bytes of memory the first are used, and only zeros stand behind them
-pub record IsPadded (n used : ℕ) (bytes : List ℕ) : Type 0 where
-  pub wide : length bytes ≡ n
+-- of n places of memory the first are used, and only zeros stand behind them
+pub record IsPadded (n used : ℕ) (all : List ℕ) : Type 0 where
+  pub wide : length all ≡ n
   pub fits : used ≤ n
-  pub zeros : drop used bytes ≡ replicate (n - used) 0
+  pub zeros : drop used all ≡ replicate (n - used) 0
 
--- bytes, with zeros behind them up to n
+-- what is used, with zeros behind it up to n
 abbrev pub padded : ℕ → List ℕ → List ℕ
 padded n bs = bs ++ replicate (n - length bs) 0
 

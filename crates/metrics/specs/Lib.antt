@@ -1,3 +1,2 @@
 pub mod Histograms
 pub mod Metrics
-pub mod Kept

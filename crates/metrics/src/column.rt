@@ -13,7 +13,7 @@ use kinds::Kind;
 use pages::Layout;
 
 // The sums over a chunk's pages, and the smallest and largest of all their values.
-#[derive(Clone, Copy)]
+#[derive(Clone, Copy, PartialEq, Eq, Debug)]
 pub struct ColumnMetrics {
     pub total_bytes_written: u64,
     pub total_rows_written: u64,

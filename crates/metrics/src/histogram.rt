@@ -4,7 +4,8 @@ ghost use Rattle.metrics.specs.Histograms.{one_more, Added};
 
 use std::marker::Model;
 
-// A count for each level from 0 to the maximum. A contract sees the list of the counts, that of level 0 first.
+// A count for each level from 0 to the maximum. A contract sees the list of the counts, that of level 0 first; the memory
+// behind them holds zeros, so that two histograms of the same counts are equal.
 #[derive(Clone, Copy, PartialEq, Eq, Debug)]
 pub struct LevelHistogram {
     counts: [u64; 16],
@@ -12,19 +13,18 @@ pub struct LevelHistogram {
 }
 
 impl Model for LevelHistogram {
-    ghost use Rattle.std.specs.Prelude.{ℕ, List, take};
+    ghost use Rattle.std.specs.Prelude.{ℕ, List, length, take};
+    ghost use Rattle.buffers.specs.Buffers.{IsPadded, padded, padded-take, length-front};
 
     ghost Value = { List ℕ };
 
-    ghost use Rattle.metrics.specs.Kept.{Kept, of_counts, of_kept};
-
     ghost view = { λ h. take h.len h.counts };
 
-    ghost invariant = { λ h. Kept h.counts h.len };
+    ghost invariant = { λ h. IsPadded 16 h.len h.counts };
 
-    ghost inverse = { of_counts };
+    ghost inverse = { λ cs. record { counts = padded 16 cs; len = length cs } };
 
-    ghost inverse_ok = { of_kept };
+    ghost inverse_ok = { λ h p i. record { counts = padded-take 16 h.len h.counts p i; len = length-front 16 h.len h.counts p i } };
 }
 
 impl LevelHistogram {
