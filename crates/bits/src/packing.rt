@@ -51,7 +51,8 @@ fn fill(order: BitOrder, levels: &[u8], b: u32, out: &mut [u8])
     repack(order, levels, b, 8, out);
 }
 
-// Packs the levels, of `b` bits each, into all of `out`, if it has room for them and no more: else nothing is changed.
+// Packs the levels, of `b` bits each, into all of `out`, if each fits and `out` is as long as they take: else nothing is
+// changed.
 pub fn pack(order: BitOrder, levels: &[u8], b: u32, out: &mut [u8]) -> Option<()>
     ensures { Packs order b levels.now out.old out.new result }
 {
