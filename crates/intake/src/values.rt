@@ -9,8 +9,7 @@ use refusals::ChunkFault;
 fn size_of<K: Kind, V: ValueOf<K>>(width: usize, value: &V) -> Option<usize>
     ensures { PlainSize width (V.ValueOf.bytes value.now) result }
 {
-    let mut room = [0u8; 8];
-    plain_size(width, value.as_bytes(&mut room))
+    plain_size(width, value.as_bytes(&mut [0; 8]))
 }
 
 // The plain bytes of the values, or the refusal of the first whose length is wrong.

@@ -5,6 +5,7 @@ use body_coder::BodyCoder;
 use level_coder::LevelCoder;
 
 // Assembles a page from its levels and plain bytes at the front of `out`, and answers its length.
+// The three lists come by themselves, since nothing below takes them together.
 pub fn assemble<L: LevelCoder, B: BodyCoder>(
     layout: Layout,
     reps: &[u8],

@@ -7,6 +7,7 @@ use body_coder::BodyCoder;
 use level_coder::LevelCoder;
 
 // Reads a page of `n` levels back: its levels, each list where the maximum is above 0, and its plain bytes.
+// The three lists come by themselves, since nothing below takes them together.
 pub fn read_page<L: LevelCoder, B: BodyCoder>(
     layout: Layout,
     n: usize,
@@ -26,6 +27,7 @@ pub fn read_page<L: LevelCoder, B: BodyCoder>(
     let def_form = layout.definition();
     let rep_count = rep_form.count(n);
     let def_count = def_form.count(n);
+    // A test and ranges, since behind a `get_mut` the proof knows no level.
     if reps.len() < rep_count || defs.len() < def_count {
         return None;
     }
