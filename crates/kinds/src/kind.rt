@@ -15,6 +15,7 @@ pub trait Kind: Copy {
 
     ghost NUMBER: { ℕ };
 
+    // The format's type that stores the values.
     const PHYSICAL_TYPE: PhysicalType;
 
     ghost PHYSICAL_TYPE: { Physical };
@@ -24,17 +25,21 @@ pub trait Kind: Copy {
 
     ghost WIDTH: { Option ℕ };
 
+    // Whether some values are NaN.
     const HAS_NAN: bool;
 
     ghost HAS_NAN: { Bool };
 
+    // Whether a value is NaN.
     fn is_nan(value: &[u8]) -> bool
         ensures { result ≡ meaning.nan value.now };
 
+    // Whether a is greater than b, values or bounds.
     fn compare_greater(a: &[u8], b: &[u8]) -> bool
         ensures { result ≡ greater meaning a.now b.now };
 
-    // The lower bound of a value at the length: how long a front of it, and whether that cuts it.
+    // The lower bound of a value at the length: how long a front of it, and whether that cuts it. As in the Rust crate, both
+    // cuts answer a pair: the length is there whether or not the value was cut.
     fn truncate_min_value(value: &[u8], length: usize) -> (usize, bool)
         ensures { CutBelow (meaning.cuts.lower length value.now) value.now result };
 

@@ -18,6 +18,7 @@ pub fn put_plain(width: usize, value: &[u8], out: &mut [u8]) -> Option<usize>
     let prefix = four_bytes(value.len());
     let front = &prefix[..if width > 0 { 0 } else { 4 }];
     let size = front.len() + value.len();
+    // A test and slices, since behind a `get_mut` the proof knows no byte of `out`.
     if out.len() < size {
         return None;
     }
@@ -43,6 +44,7 @@ pub fn read_plain(width: usize, bytes: &[u8]) -> Option<(&[u8], usize)>
     if width > 0 {
         return Some((bytes.get(..width)?, width));
     }
+    // By a pattern: behind `split_first_chunk` the proof does not know the four bytes.
     let [a, b, c, d, rest @ ..] = bytes else {
         return None;
     };
