@@ -44,7 +44,7 @@ pub fn read_plain(width: usize, bytes: &[u8]) -> Option<(&[u8], usize)>
     if width > 0 {
         return Some((bytes.get(..width)?, width));
     }
-    // By a pattern: behind `split_first_chunk` the proof does not know the four bytes.
+    // By a pattern, which names the four bytes.
     let [a, b, c, d, rest @ ..] = bytes else {
         return None;
     };
