@@ -1,3 +1,6 @@
+ghost use Rattle.std.specs.Prelude.{◌≡◌};
+ghost use Rattle.release.specs.Rows.{is_time, below, CellSplit, HoldRead};
+
 use floats::{Bits, DoubleBits};
 use std::error::Error;
 use std::fmt;
@@ -35,12 +38,16 @@ impl fmt::Display for BadRow {
 impl Error for BadRow {}
 
 impl<'a> TryFrom<&'a str> for Row<'a> {
+    ghost use Rattle.release.specs.Rows.{RowRead};
+
     type Error = BadRow;
+
+    ghost try_from_gives = { λ line r. RowRead line.now r };
 
     // Reads a line of the log.
     fn try_from(line: &'a str) -> Result<Row<'a>, BadRow> {
-        let (time, rest) = line.split_once(',').ok_or(BadRow::Cells)?;
-        let (vat, hold) = rest.split_once(',').ok_or(BadRow::Cells)?;
+        let (time, rest) = split_cell(line)?;
+        let (vat, hold) = split_cell(rest)?;
         if hold.contains(',') {
             return Err(BadRow::Cells);
         }
@@ -57,7 +64,16 @@ impl<'a> TryFrom<&'a str> for Row<'a> {
     }
 }
 
-fn read_hold(cell: &str) -> Result<Option<DoubleBits>, BadRow> {
+// The first cell, and what stands behind its comma.
+fn split_cell(text: &str) -> Result<(&str, &str), BadRow>
+    ensures { CellSplit text.now result }
+{
+    text.split_once(',').ok_or(BadRow::Cells)
+}
+
+fn read_hold(cell: &str) -> Result<Option<DoubleBits>, BadRow>
+    ensures { HoldRead cell.now result }
+{
     if cell.is_empty() {
         return Ok(None);
     }
@@ -70,7 +86,9 @@ fn read_hold(cell: &str) -> Result<Option<DoubleBits>, BadRow> {
 }
 
 // Hours, minutes and seconds in two digits each.
-fn is_time(text: &[u8]) -> bool {
+fn is_time(text: &[u8]) -> bool
+    ensures { result ≡ is_time text.now }
+{
     match text {
         [h, hh, b':', m, mm, b':', s, ss] => {
             is_below(*h, *hh, 24) && is_below(*m, *mm, 60) && is_below(*s, *ss, 60)
@@ -79,6 +97,8 @@ fn is_time(text: &[u8]) -> bool {
     }
 }
 
-fn is_below(tens: u8, ones: u8, limit: u8) -> bool {
+fn is_below(tens: u8, ones: u8, limit: u8) -> bool
+    ensures { result ≡ below limit tens ones }
+{
     tens.is_ascii_digit() && ones.is_ascii_digit() && (tens - b'0') * 10 + (ones - b'0') < limit
 }
