@@ -1,5 +1,6 @@
 -- Figures of a list of values: smallest, largest and how many are NaN.
 use Rattle.std.specs.Prelude.{◌≡◌, ℕ, ◌+◌, Bool, true, false, cond, not, List, [], ◌∷◌, ◌++◌, Some, None, Option}
+use Rattle.std.specs.Borrow.{Bor}
 use Rattle.std.specs.List.{list_any, filter, find}
 use Rattle.kinds.specs.Meaning.{Meaning, greater}
 use Rattle.figures.specs.declared.min_max.MinMax.{MinMax}
@@ -43,9 +44,15 @@ merged nan above None y = y
 merged nan above (Some a) None = Some a
 merged nan above (Some a) (Some b) = Some (cond (replaces (nan a) (nan b) (above a b)) b a)
 
+-- whatever a test may answer of two values, it says whether the first is above the second
+abbrev pub Tests : (Bor (List ℕ) → Bor (List ℕ) → Bool → Type 0) → (List ℕ → List ℕ → Bool) → Type 0
+Tests answers above = (a b : Bor (List ℕ)) (r : Bool) → answers a b r → r ≡ above a.now b.now
+
+-- of the smallest values of two lists, the joined list's
 abbrev pub lesser : Meaning → Option (List ℕ) → Option (List ℕ) → Option (List ℕ)
 lesser m = merged m.nan (λ v u. greater m v u)
 
+-- of the largest values of two lists, the joined list's
 abbrev pub higher : Meaning → Option (List ℕ) → Option (List ℕ) → Option (List ℕ)
 higher m = merged m.nan (λ v u. greater m u v)
 

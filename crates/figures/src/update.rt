@@ -1,7 +1,6 @@
 ghost use Rattle.std.specs.Prelude.{◌≡◌, ℕ, Bool, List, Some};
-ghost use Rattle.std.specs.Borrow.{Bor};
 ghost use Rattle.std.specs.Option.{option_map};
-ghost use Rattle.figures.specs.Figures.{replaces, merged, MinUpdated, MaxUpdated};
+ghost use Rattle.figures.specs.Figures.{Tests, replaces, merged, MinUpdated, MaxUpdated};
 ghost use Rattle.kinds.specs.Meaning.{greater};
 
 use kinds::{Kind, ValueOf};
@@ -39,7 +38,7 @@ fn update_stat<K: Kind, V: ValueOf<K> + Copy, F: FnOnce(&[u8], &[u8]) -> bool>(
     is_above: F,
 )
     requires { F.IsAlwaysCallable is_above }
-    ensures { (above : List ℕ → List ℕ → Bool) → ((a b : Bor (List ℕ)) (r : Bool) → F.post is_above a b r → r ≡ above a.now b.now) → option_map V.ValueOf.bytes stat.new ≡ merged K.Kind.meaning.nan above (option_map V.ValueOf.bytes stat.old) (Some (V.ValueOf.bytes value.now)) }
+    ensures { (above : List ℕ → List ℕ → Bool) → Tests (F.post is_above) above → option_map V.ValueOf.bytes stat.new ≡ merged K.Kind.meaning.nan above (option_map V.ValueOf.bytes stat.old) (Some (V.ValueOf.bytes value.now)) }
 {
     if stat.is_none_or(|old| replaces::<K, V, F>(&old, value, is_above)) {
         *stat = Some(*value);
@@ -53,7 +52,7 @@ fn replaces<K: Kind, V: ValueOf<K>, F: FnOnce(&[u8], &[u8]) -> bool>(
     is_above: F,
 ) -> bool
     requires { F.IsAlwaysCallable is_above }
-    ensures { (above : List ℕ → List ℕ → Bool) → ((a b : Bor (List ℕ)) (r : Bool) → F.post is_above a b r → r ≡ above a.now b.now) → result ≡ replaces (K.Kind.meaning.nan (V.ValueOf.bytes old.now)) (K.Kind.meaning.nan (V.ValueOf.bytes value.now)) (above (V.ValueOf.bytes old.now) (V.ValueOf.bytes value.now)) }
+    ensures { (above : List ℕ → List ℕ → Bool) → Tests (F.post is_above) above → result ≡ replaces (K.Kind.meaning.nan (V.ValueOf.bytes old.now)) (K.Kind.meaning.nan (V.ValueOf.bytes value.now)) (above (V.ValueOf.bytes old.now) (V.ValueOf.bytes value.now)) }
 {
     match (is_nan::<K, V>(old), is_nan::<K, V>(value)) {
         (false, true) => false,
@@ -62,6 +61,7 @@ fn replaces<K: Kind, V: ValueOf<K>, F: FnOnce(&[u8], &[u8]) -> bool>(
     }
 }
 
+// Whether a value is NaN.
 pub(crate) fn is_nan<K: Kind, V: ValueOf<K>>(value: &V) -> bool
     ensures { result ≡ K.Kind.meaning.nan (V.ValueOf.bytes value.now) }
 {

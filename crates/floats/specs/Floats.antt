@@ -40,11 +40,14 @@ floating n p k few f some = record {
   cuts = uncut (by_total_order f some k);
 }
 
+-- FLOAT
 abbrev pub float : Meaning
 float = floating 5 4 4 (few (lit≤ tt)) binary32 (lit< tt)
 
+-- DOUBLE
 abbrev pub double : Meaning
 double = floating 6 5 8 (few (lit≤ tt)) binary64 (lit< tt)
 
+-- Float16, in two bytes of FIXED_LEN_BYTE_ARRAY
 abbrev pub float16 : Meaning
 float16 = floating 7 7 2 (few (lit≤ tt)) binary16 (lit< tt)

@@ -10,20 +10,12 @@ use kinds::{Kind, PhysicalType, truncate_none_max, truncate_none_min};
 use std::marker::PhantomData;
 
 // The kind of the bit patterns of a type, in the total order.
-#[derive(Clone, Copy)]
-pub struct FloatKind<B>(pub PhantomData<B>);
-
-// FLOAT: binary32 patterns.
-pub type Float = FloatKind<u32>;
-
-// DOUBLE: binary64 patterns.
-pub type Double = FloatKind<u64>;
-
-// Float16: binary16 patterns in two bytes of FIXED_LEN_BYTE_ARRAY.
-pub type Float16 = FloatKind<u16>;
+#[derive(Clone, Copy, PartialEq, Eq, Debug)]
+pub struct FloatKind<B> {
+    pattern: PhantomData<B>,
+}
 
 impl<B: Floating> Kind for FloatKind<B> {
-    // It is the meaning that B gives, by its law.
     ghost meaning = { floating B.NUMBER (thrift B.PHYSICAL_TYPE) B.WIDTH (few B.few) B.format B.some };
 
     const NUMBER: u8 = B::NUMBER;

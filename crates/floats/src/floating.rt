@@ -1,10 +1,8 @@
 ghost use Rattle.std.specs.Prelude.{◌≡◌, ℕ, List};
 ghost use Rattle.std.proofs.Common.{refl};
-ghost use Rattle.kinds.specs.Meaning.{Meaning, thrift};
 ghost use Rattle.kinds.specs.declared.physical.PhysicalType.{PhysicalType as Physical};
 ghost use Rattle.kinds.specs.declared.physical.PhysicalType.TheVariants.{Float, Double, FixedLenByteArray};
-ghost use Rattle.words.specs.Words.{word, few};
-ghost use Rattle.floats.specs.Floats.{floating, float, double, float16};
+ghost use Rattle.words.specs.Words.{word};
 
 use ieee::Pattern;
 use kinds::PhysicalType;
@@ -17,14 +15,10 @@ pub trait Floating: Pattern + Word {
 
     ghost NUMBER: { ℕ };
 
+    // The format's type that stores the values.
     const PHYSICAL_TYPE: PhysicalType;
 
     ghost PHYSICAL_TYPE: { Physical };
-
-    // What the kind means.
-    ghost meaning: { Meaning };
-
-    ghost meaning_law: { meaning ≡ floating NUMBER (thrift PHYSICAL_TYPE) Self.WIDTH (few Self.few) Self.format Self.some };
 
     // The pattern that a value begins with is the number of its first bytes.
     ghost number_law: { (v : List ℕ) → Self.number (Self.of_bytes v) ≡ word Self.WIDTH v };
@@ -39,10 +33,6 @@ impl Floating for u32 {
 
     ghost PHYSICAL_TYPE = { Float };
 
-    ghost meaning = { float };
-
-    ghost meaning_law = { refl };
-
     ghost number_law = { λ _. refl };
 }
 
@@ -55,10 +45,6 @@ impl Floating for u64 {
 
     ghost PHYSICAL_TYPE = { Double };
 
-    ghost meaning = { double };
-
-    ghost meaning_law = { refl };
-
     ghost number_law = { λ _. refl };
 }
 
@@ -70,10 +56,6 @@ impl Floating for u16 {
     const PHYSICAL_TYPE: PhysicalType = PhysicalType::FixedLenByteArray;
 
     ghost PHYSICAL_TYPE = { FixedLenByteArray };
-
-    ghost meaning = { float16 };
-
-    ghost meaning_law = { refl };
 
     ghost number_law = { λ _. refl };
 }

@@ -5,7 +5,9 @@
 mod bits;
 mod float_kind;
 mod floating;
+mod names;
 
 pub use bits::{Bits, DoubleBits, Float16Bits, FloatBits};
-pub use float_kind::{Double, Float, Float16, FloatKind};
+pub use float_kind::FloatKind;
 pub use floating::Floating;
+pub use names::{Double, Float, Float16};

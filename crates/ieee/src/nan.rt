@@ -7,5 +7,5 @@ use crate::pattern::Pattern;
 pub fn is_nan<P: Pattern>(bits: P) -> bool
     ensures { result ≡ is_nan (datum P.format (P.number bits)) }
 {
-    bits.number() % P::SIGN > P::INFINITY
+    bits.into() % P::SIGN > P::INFINITY
 }

@@ -3,32 +3,36 @@ ghost use Rattle.std.proofs.Common.{refl, lit<, lit≤};
 ghost use Rattle.ieee.specs.Formats.{Format, binary16, binary32, binary64};
 
 // A type whose values are the bit patterns of a format.
-pub trait Pattern: Copy {
+pub trait Pattern: Copy + Into<u64> {
+    // The format.
     ghost format: { Format };
 
     // The significand has a bit to say that a NaN is quiet.
     ghost some: { 0 < format.significand };
 
+    // The pattern as a number.
     ghost number: { Self → ℕ };
 
     // The weight of the sign bit.
-    ghost SIGN: { ℕ };
-
     const SIGN: u64;
 
-    // The pattern of infinity: an exponent of ones, and nothing behind it.
-    ghost INFINITY: { ℕ };
+    ghost SIGN: { ℕ };
 
+    // The pattern of infinity, without a sign.
     const INFINITY: u64;
 
-    // The pattern as a number, whichever type it has.
-    fn number(self) -> u64
-        ensures { result ≡ number self };
+    ghost INFINITY: { ℕ };
 
+    // A pattern converts into its number.
+    ghost converts_law: { (bits : Self) (n : ℕ) → Self.converts bits n → n ≡ number bits };
+
+    // The sign stands before the exponent and the significand.
     ghost sign_law: { SIGN ≡ 2 ^ (format.exponent + format.significand) };
 
+    // Every pattern is a u64.
     ghost sign_fits_law: { SIGN + SIGN ≤ 2 ^ 64 };
 
+    // Infinity is an exponent of ones, and nothing behind it.
     ghost infinity_law: { INFINITY ≡ (2 ^ format.exponent - 1) * 2 ^ format.significand };
 }
 
@@ -47,9 +51,7 @@ impl Pattern for u16 {
 
     const INFINITY: u64 = 0x7C00;
 
-    fn number(self) -> u64 {
-        u64::from(self)
-    }
+    ghost converts_law = { λ _ _ e. e };
 
     ghost sign_law = { refl };
 
@@ -73,9 +75,7 @@ impl Pattern for u32 {
 
     const INFINITY: u64 = 0x7F80_0000;
 
-    fn number(self) -> u64 {
-        u64::from(self)
-    }
+    ghost converts_law = { λ _ _ e. e };
 
     ghost sign_law = { refl };
 
@@ -99,9 +99,7 @@ impl Pattern for u64 {
 
     const INFINITY: u64 = 0x7FF0_0000_0000_0000;
 
-    fn number(self) -> u64 {
-        self
-    }
+    ghost converts_law = { λ _ _ e. e };
 
     ghost sign_law = { refl };
 

@@ -8,7 +8,7 @@ use crate::pattern::Pattern;
 fn rank<P: Pattern>(bits: P) -> u64
     ensures { result ≡ rank P.format (P.number bits) }
 {
-    let n = bits.number();
+    let n = bits.into();
     if n < P::SIGN {
         P::SIGN + n
     } else {

@@ -22,14 +22,18 @@ integers n p k few o = record {
   cuts = uncut o;
 }
 
+-- INT32, signed
 abbrev pub int32 : Meaning
 int32 = integers 1 1 4 (few (lit≤ tt)) (by_integer (λ v. to_z w32 (word 4 v)))
 
+-- INT32, unsigned
 abbrev pub uint32 : Meaning
 uint32 = integers 2 1 4 (few (lit≤ tt)) (by_number (λ v. word 4 v))
 
+-- INT64, signed
 abbrev pub int64 : Meaning
 int64 = integers 3 2 8 (few (lit≤ tt)) (by_integer (λ v. to_z w64 (word 8 v)))
 
+-- INT64, unsigned
 abbrev pub uint64 : Meaning
 uint64 = integers 4 2 8 (few (lit≤ tt)) (by_number (λ v. word 8 v))

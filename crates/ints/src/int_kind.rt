@@ -9,24 +9,13 @@ use kinds::{Kind, PhysicalType, truncate_none_max, truncate_none_min};
 use std::marker::PhantomData;
 
 // The kind of the integers of a type, in their order.
-#[derive(Clone, Copy)]
-pub struct IntKind<T>(pub PhantomData<T>);
-
-// INT32, signed.
-pub type Int32 = IntKind<i32>;
-
-// INT32, unsigned.
-pub type UInt32 = IntKind<u32>;
-
-// INT64, signed.
-pub type Int64 = IntKind<i64>;
-
-// INT64, unsigned.
-pub type UInt64 = IntKind<u64>;
+#[derive(Clone, Copy, PartialEq, Eq, Debug)]
+pub struct IntKind<T> {
+    integer: PhantomData<T>,
+}
 
 impl<T: Integer> Kind for IntKind<T> {
-    // It is the meaning that T gives, by its law.
-    ghost meaning = { integers T.NUMBER (thrift T.PHYSICAL_TYPE) T.WIDTH (few T.few) T.meaning.order };
+    ghost meaning = { integers T.NUMBER (thrift T.PHYSICAL_TYPE) T.WIDTH (few T.few) T.order };
 
     const NUMBER: u8 = T::NUMBER;
 

@@ -1,8 +1,6 @@
 ghost use Rattle.std.specs.Prelude.{◌≡◌, ℕ, List};
 ghost use Rattle.std.specs.Ordering.{is_gt};
-ghost use Rattle.kinds.specs.Meaning.{Meaning, greater, thrift};
-ghost use Rattle.ints.specs.Ints.{integers};
-ghost use Rattle.words.specs.Words.{few};
+ghost use Rattle.kinds.specs.Orders.{Order};
 ghost use Rattle.kinds.specs.declared.physical.PhysicalType.{PhysicalType as Physical};
 
 use kinds::PhysicalType;
@@ -16,15 +14,14 @@ pub trait Integer: Word + Ord {
 
     ghost NUMBER: { ℕ };
 
+    // The format's type that stores the values.
     const PHYSICAL_TYPE: PhysicalType;
 
     ghost PHYSICAL_TYPE: { Physical };
 
-    // What the kind means.
-    ghost meaning: { Meaning };
-
-    ghost meaning_law: { meaning ≡ integers NUMBER (thrift PHYSICAL_TYPE) Self.WIDTH (few Self.few) meaning.order };
+    // The order of the kind's values.
+    ghost order: { Order };
 
     // Values are in the order of their integers.
-    ghost order_law: { (a b : List ℕ) → greater meaning a b ≡ is_gt (Self.cmp (Self.of_bytes a) (Self.of_bytes b)) };
+    ghost order_law: { (a b : List ℕ) → order.greater a b ≡ is_gt (Self.cmp (Self.of_bytes a) (Self.of_bytes b)) };
 }

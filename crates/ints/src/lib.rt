@@ -4,8 +4,10 @@
 
 mod int_kind;
 mod integer;
+mod names;
 mod signed;
 mod unsigned;
 
-pub use int_kind::{Int32, Int64, IntKind, UInt32, UInt64};
+pub use int_kind::IntKind;
 pub use integer::Integer;
+pub use names::{Int32, Int64, UInt32, UInt64};

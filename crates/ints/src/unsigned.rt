@@ -1,12 +1,11 @@
-ghost use Rattle.std.proofs.Common.{refl};
+ghost use Rattle.kinds.specs.Orders.{by_number};
 ghost use Rattle.kinds.specs.Plain.{four};
 ghost use Rattle.kinds.specs.declared.physical.PhysicalType.TheVariants.{Int32, Int64};
-ghost use Rattle.words.specs.Words.{eight};
+ghost use Rattle.words.specs.Words.{word, eight};
 ghost use Rattle.ints.specs.Comparing.{greater_ℕ};
-ghost use Rattle.ints.specs.Ints.{uint32, uint64};
 
-use crate::int_kind::{UInt32, UInt64};
 use crate::integer::Integer;
+use crate::names::{UInt32, UInt64};
 use kinds::{PhysicalType, ValueOf};
 use words::Word;
 
@@ -19,9 +18,7 @@ impl Integer for u32 {
 
     ghost PHYSICAL_TYPE = { Int32 };
 
-    ghost meaning = { uint32 };
-
-    ghost meaning_law = { refl };
+    ghost order = { by_number (word 4) };
 
     ghost order_law = { λ _ _. greater_ℕ _ _ };
 }
@@ -30,7 +27,7 @@ impl ValueOf<UInt32> for u32 {
     ghost bytes = { four };
 
     fn as_bytes<'a>(&'a self, room: &'a mut [u8; 8]) -> &'a [u8] {
-        u32::lend(*self, room)
+        self.lend(room)
     }
 }
 
@@ -43,9 +40,7 @@ impl Integer for u64 {
 
     ghost PHYSICAL_TYPE = { Int64 };
 
-    ghost meaning = { uint64 };
-
-    ghost meaning_law = { refl };
+    ghost order = { by_number (word 8) };
 
     ghost order_law = { λ _ _. greater_ℕ _ _ };
 }
@@ -54,6 +49,6 @@ impl ValueOf<UInt64> for u64 {
     ghost bytes = { eight };
 
     fn as_bytes<'a>(&'a self, room: &'a mut [u8; 8]) -> &'a [u8] {
-        u64::lend(*self, room)
+        self.lend(room)
     }
 }

@@ -14,6 +14,7 @@ pub trait Word: Copy {
 
     const WIDTH: usize;
 
+    // A number fits in the room.
     ghost few: { WIDTH ≤ 8 };
 
     // The bytes of a number.
@@ -30,6 +31,7 @@ pub trait Word: Copy {
     fn lend(self, room: &mut [u8; 8]) -> &[u8]
         ensures { result.now ≡ bytes self };
 
+    // A number has as many bytes as its type says.
     ghost width_law: { (x : Self) → length (bytes x) ≡ WIDTH };
 }
 
