@@ -56,11 +56,7 @@ fn fill(order: BitOrder, levels: &[u8], b: u32, out: &mut [u8])
 pub fn pack(order: BitOrder, levels: &[u8], b: u32, out: &mut [u8]) -> Option<()>
     ensures { Packs order b levels.now out.old out.new result }
 {
-    // Two tests in a row: behind one `||` the proof knows neither fact.
-    if !has_room(levels.len(), b, out.len()) {
-        return None;
-    }
-    if !fits(levels, b) {
+    if !has_room(levels.len(), b, out.len()) || !fits(levels, b) {
         return None;
     }
     fill(order, levels, b, out);
@@ -82,10 +78,7 @@ fn is_written(order: BitOrder, bytes: &[u8], b: u32, n: usize) -> bool
 pub fn unpack(order: BitOrder, bytes: &[u8], b: u32, levels: &mut [u8]) -> Option<()>
     ensures { Unpacks order b bytes.now levels.old levels.new result }
 {
-    if !has_room(levels.len(), b, bytes.len()) {
-        return None;
-    }
-    if !is_written(order, bytes, b, levels.len()) {
+    if !has_room(levels.len(), b, bytes.len()) || !is_written(order, bytes, b, levels.len()) {
         return None;
     }
     repack(order, bytes, 8, b, levels);

@@ -4,6 +4,7 @@ ghost use Rattle.bodies.specs.Bodies.{plain_body};
 use body_coder::{BodyCoder, is_whole};
 
 // The format's PLAIN.
+#[derive(Clone, Copy, PartialEq, Eq, Debug)]
 pub struct Plain;
 
 impl BodyCoder for Plain {
@@ -21,6 +22,7 @@ impl BodyCoder for Plain {
 
     fn code(k: usize, bytes: &[u8], out: &mut [u8]) -> Option<usize> {
         let len = bytes.len();
+        // A test and a range: behind `get_mut` the proof knows no byte of `out`.
         if !is_whole(true, k, len) || out.len() < len {
             return None;
         }

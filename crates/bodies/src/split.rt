@@ -6,6 +6,7 @@ use body_coder::{BodyCoder, is_whole};
 use splits::scatter;
 
 // The format's BYTE_STREAM_SPLIT, for values of equal width.
+#[derive(Clone, Copy, PartialEq, Eq, Debug)]
 pub struct Split;
 
 impl BodyCoder for Split {
@@ -36,9 +37,5 @@ impl BodyCoder for Split {
 fn value_count(len: usize, k: usize) -> Option<usize>
     ensures { result ≡ (if whole false k len then Some (len / k) else None) }
 {
-    if is_whole(false, k, len) {
-        Some(len / k)
-    } else {
-        None
-    }
+    len.checked_div(k).filter(|_| is_whole(false, k, len))
 }

@@ -1,7 +1,9 @@
 ghost use Rattle.std.specs.Prelude.{◌≡◌, ℕ, Bool};
 ghost use Rattle.body_coder.specs.Body.{Body, whole, Wrote};
 
+// A way to write the plain bytes of values as other bytes, and to read them from there.
 pub trait BodyCoder {
+    // What the coder writes and reads, and the two constants below.
     ghost body: { Body };
 
     // The encoding's number in the format.
@@ -27,12 +29,14 @@ pub trait BodyCoder {
     // The constants are those of the meaning.
     ghost constants_agree: { (ENCODING ≡ body.number) × (BYTE_ARRAY ≡ body.joins) };
 
+    // `ENCODING`, which the clause names by the meaning.
     final fn encoding_number() -> u8
         ensures { result ≡ body.number }
     {
         Self::ENCODING
     }
 
+    // `BYTE_ARRAY`, which the clause names by the meaning.
     final fn admits_byte_array() -> bool
         ensures { result ≡ body.joins }
     {

@@ -9,7 +9,7 @@ use kinds::{Kind, PhysicalType, ValueOf};
 use std::marker::PhantomData;
 
 // The kind of a content on a physical type, with its own number.
-#[derive(Clone, Copy)]
+#[derive(Clone, Copy, PartialEq, Eq, Debug)]
 pub struct ByteString<C, S, const N: u8> {
     content: PhantomData<C>,
     storage: PhantomData<S>,

@@ -4,10 +4,12 @@ ghost use Rattle.kinds.specs.Orders.{Order};
 
 // What byte strings stand for: how they are compared and cut, whatever their physical type.
 pub trait Content: Copy {
+    // The order of values as clauses see it, and how values are cut under it.
     ghost order: { Order };
 
     ghost cuts: { Cuts order };
 
+    // Whether a is greater than b.
     fn compare_greater(a: &[u8], b: &[u8]) -> bool
         ensures { result ≡ order.greater a.now b.now };
 

@@ -4,7 +4,7 @@ ghost use Rattle.decimals.specs.Decimals.{decimal};
 use crate::content::Content;
 
 // A number in two's complement, compared as a number and never cut.
-#[derive(Clone, Copy)]
+#[derive(Clone, Copy, PartialEq, Eq, Debug)]
 pub struct Decimal;
 
 impl Content for Decimal {

@@ -8,6 +8,7 @@ use kinds::PhysicalType;
 
 // The physical type that byte strings have in the format, and the width that it fixes.
 pub trait Storage: Copy {
+    // The physical type, and the same as clauses see it.
     const PHYSICAL_TYPE: PhysicalType;
 
     ghost PHYSICAL_TYPE: { Physical };
@@ -22,7 +23,7 @@ pub trait Storage: Copy {
 }
 
 // BYTE_ARRAY: each value has its own length.
-#[derive(Clone, Copy)]
+#[derive(Clone, Copy, PartialEq, Eq, Debug)]
 pub struct OnByteArray;
 
 impl Storage for OnByteArray {
@@ -38,7 +39,7 @@ impl Storage for OnByteArray {
 }
 
 // FIXED_LEN_BYTE_ARRAY: each column has its own length.
-#[derive(Clone, Copy)]
+#[derive(Clone, Copy, PartialEq, Eq, Debug)]
 pub struct OnFixed;
 
 impl Storage for OnFixed {

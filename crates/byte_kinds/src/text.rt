@@ -3,7 +3,7 @@ ghost use Rattle.byte_kinds.specs.Kinds.{lexical, text_cuts};
 use crate::content::Content;
 
 // Text, compared as its bytes are and cut between characters.
-#[derive(Clone, Copy)]
+#[derive(Clone, Copy, PartialEq, Eq, Debug)]
 pub struct Text;
 
 impl Content for Text {

@@ -3,7 +3,7 @@ ghost use Rattle.byte_kinds.specs.Kinds.{lexical, bytes_cuts};
 use crate::content::Content;
 
 // Bytes without a meaning of their own, compared unsigned and cut as bytes.
-#[derive(Clone, Copy)]
+#[derive(Clone, Copy, PartialEq, Eq, Debug)]
 pub struct Undecorated;
 
 impl Content for Undecorated {

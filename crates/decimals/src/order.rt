@@ -19,7 +19,7 @@ pub fn compare_greater_byte_array_decimals(a: &[u8], b: &[u8]) -> bool
     if other != negative {
         return !negative;
     }
-    // of one sign: more bytes give the larger magnitude, unless they are sign extension
+    // Of one sign: more bytes give the larger magnitude, unless they are sign extension
     let length = a.len().min(b.len());
     let Some(a_last) = unextended(a, length, negative) else {
         return !negative;

@@ -1,7 +1,9 @@
 ghost use Rattle.std.specs.Prelude.{◌≡◌, ℕ, Bool};
 ghost use Rattle.level_coder.specs.Coding.{Coding, Sized, Coded, Read};
 
+// A way to write levels as bytes, and to read them from there.
 pub trait LevelCoder {
+    // What the coder writes: its bytes, how many they are, and the numbers below.
     ghost coding: { Coding };
 
     // The encoding's number in the format.
@@ -35,18 +37,21 @@ pub trait LevelCoder {
     // The constants are those of the meaning.
     ghost constants_agree: { (ENCODING ≡ coding.number) × (FRAMED ≡ coding.framed) × (VERSION_2 ≡ coding.second) };
 
+    // `ENCODING`, which the clause names by the meaning.
     final fn encoding_number() -> u8
         ensures { result ≡ coding.number }
     {
         Self::ENCODING
     }
 
+    // `FRAMED`, which the clause names by the meaning.
     final fn is_framed() -> bool
         ensures { result ≡ coding.framed }
     {
         Self::FRAMED
     }
 
+    // `VERSION_2`, which the clause names by the meaning.
     final fn in_version_2() -> bool
         ensures { result ≡ coding.second }
     {

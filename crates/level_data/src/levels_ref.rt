@@ -5,18 +5,23 @@ ghost use Rattle.level_data.specs.Levels.{levels_of, listed, Sliced, value_count
 // Borrowed levels. A repeated value stands for the list of that length, so there is no `==`, which would tell the two apart.
 #[derive(Clone, Copy, Debug)]
 pub enum LevelDataRef<'a> {
+    // No levels are given.
     Absent,
+    // The levels one by one.
     Materialized(&'a [i16]),
+    // One value, so many times.
     Uniform { value: i16, count: usize },
 }
 
 impl<'a> LevelDataRef<'a> {
+    // No levels.
     pub fn absent() -> LevelDataRef<'a>
         ensures { levels_of result ≡ None }
     {
         LevelDataRef::Absent
     }
 
+    // A value repeated so many times.
     pub fn uniform(value: i16, count: usize) -> LevelDataRef<'a>
         ensures { levels_of result ≡ Some (replicate count value) }
     {
@@ -34,12 +39,14 @@ impl<'a> LevelDataRef<'a> {
         }
     }
 
+    // The first level, absent where there is none.
     pub fn first(self) -> Option<i16>
         ensures { result ≡ slice_get (listed self.entry) 0 }
     {
         self.value_at(0)
     }
 
+    // The level at the index, absent where there is none.
     pub fn value_at(self, idx: usize) -> Option<i16>
         ensures { result ≡ slice_get (listed self.entry) idx }
     {
@@ -58,7 +65,7 @@ impl<'a> LevelDataRef<'a> {
             Self::Absent => Some(self),
             Self::Materialized(levels) => {
                 let end = end_of(offset, len, levels.len())?;
-                Some(Self::Materialized(&levels[offset..end]))
+                levels.get(offset..end).map(Self::Materialized)
             }
             Self::Uniform { value, count } => {
                 end_of(offset, len, count)?;

@@ -1,10 +1,9 @@
-ghost use Rattle.std.specs.Prelude.{◌≡◌, ℕ, ◌+◌, ◌*◌, ◌%◌, ◌<◌, ◌≤◌, List, [], take};
-ghost use Rattle.bits.specs.Packing.{groups};
+ghost use Rattle.std.specs.Prelude.{◌≡◌, ℕ, ◌<◌, ◌≤◌, List, [], length, take};
 ghost use Rattle.levels.specs.Formats.{uleb, header};
 
 use std::marker::Model;
 
-// The bytes before a list's levels.
+// The bytes before a list's levels, at most two. In fixed memory with a length beside it, since nothing is allocated.
 #[derive(Drop)]
 pub(crate) struct Header {
     bytes: [u8; 2],
@@ -20,6 +19,7 @@ impl Model for Header {
 }
 
 impl Header {
+    // No bytes.
     pub(crate) fn none() -> Header
         ensures { result ≡ [] }
     {
@@ -34,7 +34,7 @@ impl Header {
         requires { n ≤ 1024 }
         ensures { result ≡ header n }
     {
-        Self::uleb128(run_header(n))
+        Self::uleb128((2 * n.div_ceil(8) + 1) as u16)
     }
 
     // The ULEB128 bytes of a number below 2 ^ 14.
@@ -49,30 +49,17 @@ impl Header {
             }
         } else {
             Header {
-                bytes: [low_byte(v), (v / 128) as u8],
+                bytes: [(v % 128 + 128) as u8, (v / 128) as u8],
                 len: 2,
             }
         }
     }
 
+    // The bytes that count.
     pub(crate) fn as_slice(&self) -> &[u8]
-        ensures { result.now ≡ self.now }
+        ensures bytes { result.now ≡ self.now }
+        ensures short { length result.now ≤ 2 }
     {
         &self.bytes[..self.len]
     }
-}
-
-// The number that stands before the bit-packed groups of `n` levels.
-fn run_header(n: usize) -> u16
-    requires { n ≤ 1024 }
-    ensures { result ≡ 2 * groups n + 1 }
-{
-    (2 * n.div_ceil(8) + 1) as u16
-}
-
-// The lowest seven bits, with the mark that a byte follows.
-fn low_byte(v: u16) -> u8
-    ensures { result ≡ v % 128 + 128 }
-{
-    (v % 128 + 128) as u8
 }

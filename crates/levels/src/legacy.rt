@@ -2,7 +2,6 @@ ghost use Rattle.std.specs.Prelude.{◌≡◌, refl, ◌*◌, []};
 ghost use Rattle.levels.specs.Coders.{legacy_coding};
 ghost use Rattle.levels.specs.Formats.{bytes_for};
 ghost use Rattle.levels.specs.Layouts.{LaidOut};
-ghost use Rattle.levels.specs.Lists.{Limits};
 
 use crate::header::Header;
 use crate::list::{LevelList, admits};
@@ -10,17 +9,11 @@ use bits::BitOrder;
 use level_coder::LevelCoder;
 
 // The format's BIT_PACKED: deprecated, version 1 only, and no length before it.
+#[derive(Clone, Copy, PartialEq, Eq, Debug)]
 pub struct Legacy;
 
-// How many bytes `n` levels of `b` bits take, the last one filled.
-fn byte_count(n: usize, b: u32) -> usize
-    requires { Limits n b }
-    ensures { result ≡ bytes_for (n * b) }
-{
-    (n * b as usize).div_ceil(8)
-}
-
-// The list of `n` levels of `b` bits: its bytes, and no header.
+// The list of `n` levels of `b` bits: its bytes, the last one filled, and no header.
+#[tactic(auto, using(crate::proofs::Rooms::legacy_room))]
 fn list_of(n: usize, b: u32) -> Option<LevelList>
     ensures { LaidOut [] (bytes_for (n * b)) n b result }
 {
@@ -31,10 +24,11 @@ fn list_of(n: usize, b: u32) -> Option<LevelList>
         header: Header::none(),
         n,
         b,
-        len: byte_count(n, b),
+        len: (n * b as usize).div_ceil(8),
     })
 }
 
+// The list comes from a function of each coder's own, since a header and a length can be computed only behind the test.
 impl LevelCoder for Legacy {
     ghost coding = { legacy_coding };
 

@@ -1,5 +1,5 @@
-ghost use Rattle.std.specs.Prelude.{◌≡◌, ◌+◌, ◌*◌, ◌≤◌, length, Decides};
-ghost use Rattle.bits.specs.Packing.{groups};
+ghost use Rattle.std.specs.Prelude.{◌≡◌, ◌+◌, ◌≤◌, length, Decides};
+ghost use Rattle.bits.specs.Packing.{Room};
 ghost use Rattle.levels.specs.Lists.{Limits, Wrote, Took};
 
 use crate::header::Header;
@@ -12,18 +12,15 @@ pub(crate) fn admits(n: usize, b: u32) -> bool
     n <= 1024 && b <= 4
 }
 
-// Where `n` levels of `b` bits stand: behind a header, in `len` bytes.
+// Where `n` levels of `b` bits stand: behind a header, in `len` bytes. The order of bits is no part of it, since nothing of
+// the list depends on it: a coder names its order where it writes and where it reads.
 #[derive(Drop)]
 pub(crate) struct LevelList {
     pub(crate) header: Header,
     pub(crate) n: usize,
     pub(crate) b: u32,
     pub(crate) len: usize,
-    ghost few: { n ≤ 1024 },
-    ghost narrow: { b ≤ 4 },
-    ghost holds: { n * b ≤ 8 * len },
-    ghost grouped: { len ≤ groups n * b },
-    ghost short: { length header ≤ 2 },
+    ghost room: { Room n b len },
 }
 
 impl LevelList {
@@ -57,7 +54,7 @@ impl LevelList {
     {
         let behind = bytes.strip_prefix(self.header.as_slice())?;
         let body = behind.get(..self.len)?;
-        // Likewise.
+        // A test and a range: behind `get_mut` the proof knows no level.
         if levels.len() < self.n {
             return None;
         }

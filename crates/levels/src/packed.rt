@@ -10,6 +10,7 @@ use bits::BitOrder;
 use level_coder::LevelCoder;
 
 // The format's RLE, as one bit-packed run. Version 1 puts a length before it.
+#[derive(Clone, Copy, PartialEq, Eq, Debug)]
 pub struct Packed;
 
 // The list of `n` levels of `b` bits: its header, and the groups of eight that hold them.
@@ -27,6 +28,7 @@ fn list_of(n: usize, b: u32) -> Option<LevelList>
     })
 }
 
+// The list comes from a function of each coder's own, since a header and a length can be computed only behind the test.
 impl LevelCoder for Packed {
     ghost coding = { packed_coding };
 

@@ -28,7 +28,7 @@ pub(crate) fn codes<C: LevelCoder>(levels: &[u8], b: u32, bytes: &[u8]) -> bool 
 
 // Whether the coder refuses to write to a list of old bytes, and leaves them alone.
 pub(crate) fn refuses<C: LevelCoder>(levels: &[u8], b: u32, out: &mut [u8]) -> bool {
-    C::code(levels, b, out) == None && left(out, &[])
+    C::code(levels, b, out).is_none() && left(out, &[])
 }
 
 // Whether `size` of the bytes give the levels.

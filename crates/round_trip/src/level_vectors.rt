@@ -72,11 +72,11 @@ fn sizes(rt: HostRuntime) {
     assert!(rt; Packed::size(505, 3) == Some(194));
     assert!(rt; Packed::size(1024, 4) == Some(514));
     assert!(rt; Packed::size(5, 0) == Some(1));
-    assert!(rt; Packed::size(1025, 1) == None);
+    assert!(rt; Packed::size(1025, 1).is_none());
     assert!(rt; Legacy::size(1024, 4) == Some(512));
     assert!(rt; Legacy::size(3, 3) == Some(2));
     assert!(rt; Legacy::size(5, 0) == Some(0));
-    assert!(rt; Legacy::size(1, 5) == None);
+    assert!(rt; Legacy::size(1, 5).is_none());
 }
 
 #[test]

@@ -7,6 +7,7 @@ fn write_stream(values: &[u8], j: usize, k: usize, out: &mut [u8])
     requires one { j < k }
     ensures { out.new ≡ stream (length out.old) k values.now j }
 {
+    // By index: zipped with `chunks_exact`, the proof's loop knows no byte of `out`.
     for (i, byte) in out.iter_mut().enumerate() {
         *byte = values[i * k + j];
     }

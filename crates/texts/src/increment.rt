@@ -6,7 +6,7 @@ ghost use Rattle.texts.specs.Steps.{Succeeds, RaisedAt};
 pub(crate) fn last_raised(text: &str) -> Option<(usize, char)>
     ensures { RaisedAt text.now result }
 {
-    // no `find_map`: the proof goes by the text that is left at each character, which its clauses do not show
+    // No `find_map`: the proof goes by the text that is left at each character, which its clauses do not show
     for (at, c) in text.char_indices().rev() {
         if let Some(next) = successor(c) {
             return Some((at, next));
@@ -29,7 +29,7 @@ pub(crate) fn increment_utf8(bytes: &mut [u8], at: usize, next: char) -> usize
     ensures end { result ≡ at + len_utf8 next }
     ensures put { bytes.new ≡ take at bytes.old ++ (encode_utf8 next ++ drop (at + len_utf8 next) bytes.old) }
 {
-    // by way of four bytes: the library does not say what `encode_utf8` leaves in a longer slice
+    // By way of four bytes: the library does not say what `encode_utf8` leaves in a longer slice
     let mut room = [0u8; 4];
     let code = next.encode_utf8(&mut room).as_bytes();
     let end = at + code.len();

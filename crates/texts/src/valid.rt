@@ -1,7 +1,6 @@
 ghost use Rattle.std.specs.Prelude.{◌≡◌};
-ghost use Rattle.std.specs.List.{list_all};
 ghost use Rattle.std.specs.Option.{option_copied};
-ghost use Rattle.texts.specs.Leads.{fits, follower};
+ghost use Rattle.texts.specs.Leads.{fits};
 ghost use Rattle.texts.specs.Steps.{Step, Valid, AsText};
 
 use crate::leads::{follows, lead_length, second_fits};
@@ -21,7 +20,7 @@ pub fn is_utf8(bytes: &[u8]) -> bool
 pub(crate) fn as_text(bytes: &[u8]) -> Option<&str>
     ensures { AsText bytes.now (option_copied result) }
 {
-    // no `then`: its closure would need a `requires` of its own for the unchecked call, and be no plainer
+    // No `then`: its closure would need a `requires` of its own for the unchecked call, and be no plainer
     if is_utf8(bytes) {
         Some(unsafe { std::str::from_utf8_unchecked(bytes) })
     } else {
@@ -46,12 +45,5 @@ fn others_fit(lead: u8, others: &[u8]) -> bool
     let Some((second, rest)) = others.split_first() else {
         return true;
     };
-    second_fits(lead, *second) && all_follow(rest)
-}
-
-// Whether each byte may come third or fourth.
-fn all_follow(bytes: &[u8]) -> bool
-    ensures { result ≡ list_all follower bytes.now }
-{
-    bytes.iter().all(|byte| follows(*byte))
+    second_fits(lead, *second) && rest.iter().all(|byte| follows(*byte))
 }

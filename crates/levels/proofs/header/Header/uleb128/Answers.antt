@@ -1,4 +1,4 @@
-use Rattle.std.proofs.Common.{◌/◌, [], ◌∷◌, sym, ap, ◌∙◌, arith}
+use Rattle.std.proofs.Common.{sym, arith}
 use Rattle.levels.specs.Laws.{uleb-one, uleb-two}
 use Rattle.levels.proofs.header.Header.uleb128.Goals as goal
 
@@ -6,4 +6,4 @@ pub returns-then-v-lt128 : goal.returns-then-v-lt128
 returns-then-v-lt128 c = sym (uleb-one c.args.v (omega arith))
 
 pub returns-else-v-lt128 : goal.returns-else-v-lt128
-returns-else-v-lt128 c = ap (λ x. x ∷ c.args.v / 128 ∷ []) c.low_byte.ensures ∙ sym (uleb-two c.args.v (omega arith) (omega arith))
+returns-else-v-lt128 c = sym (uleb-two c.args.v (omega arith) (omega arith))
