@@ -1,27 +1,9 @@
-ghost use Rattle.std.specs.Prelude.{◌≡◌, ◌+◌, length};
+ghost use Rattle.std.specs.Prelude.{◌≡◌, length};
 ghost use Rattle.std.specs.Option.{option_map};
 ghost use Rattle.sinks.specs.Stores.{Copied};
 ghost use Rattle.areas.specs.Areas.{part};
 
 use crate::place::Place;
-
-// `as usize`, since no `From` takes a `u32` to a `usize`.
-impl Place {
-    // Where it ends.
-    pub fn end(self) -> usize
-        ensures { result ≡ self.offset + self.len }
-    {
-        self.offset as usize + self.len as usize
-    }
-
-    // The bytes of an area that lie there.
-    pub fn bytes_in<'a>(self, area: &'a [u8]) -> &'a [u8]
-        ensures { result.now ≡ part area.now self }
-    {
-        let behind = &area[area.len().min(self.offset as usize)..];
-        &behind[..behind.len().min(self.len as usize)]
-    }
-}
 
 // The three answers of a store about a page: its offset, its length, a copy.
 pub fn offset_at(place: Option<Place>) -> Option<usize>

@@ -3,10 +3,6 @@ use Rattle.std.specs.Prelude.{◌≡◌, ℕ, ◌+◌, ◌-◌, ◌<◌, ◌≤�
 use Rattle.std.proofs.Common.{sym, ap, ◌∙◌, arith}
 use Rattle.std.proofs.lemmas.List.{length-take-le, take-append-drop}
 
--- the bytes that a buffer holds: in a contract a buffer is their list
-abbrev pub held : List ℕ → List ℕ
-held b = b
-
 -- what appending bytes to at most n answers and leaves: absent, and nothing changed, exactly if they do not fit
 abbrev pub Appended : ℕ → List ℕ → List ℕ → List ℕ → Option (Unit {0}) → Type 0
 Appended n old bs new (Some _) = (length old + length bs ≤ n) × (new ≡ old ++ bs)
@@ -22,10 +18,12 @@ pub record IsPadded (n used : ℕ) (all : List ℕ) : Type 0 where
 abbrev pub padded : ℕ → List ℕ → List ℕ
 padded n bs = bs ++ replicate (n - length bs) 0
 
+-- padding what is used gives all of the memory back
 pub padded-take : (n used : ℕ) (bytes : List ℕ) → IsPadded n used bytes → padded n (take used bytes) ≡ bytes
 padded-take n used bytes p =
     ap (λ k. take used bytes ++ replicate (n - k) 0) (length-take-le used bytes (omega (arith, p.wide, p.fits)))
     ∙ ap (λ zs. take used bytes ++ zs) (sym p.zeros) ∙ take-append-drop used bytes
 
+-- what is used is as long as it says
 pub length-front : (n used : ℕ) (bytes : List ℕ) → IsPadded n used bytes → length (take used bytes) ≡ used
 length-front n used bytes p = length-take-le used bytes (omega (arith, p.wide, p.fits))

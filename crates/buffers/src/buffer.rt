@@ -4,7 +4,8 @@ ghost use Rattle.buffers.specs.Buffers.{Appended};
 use kinds::ValueOf;
 use std::marker::Model;
 
-// A list of at most N bytes. The memory behind them holds zeros, so that two buffers of the same bytes are equal.
+// A list of at most N bytes, in fixed memory, since nothing is allocated. The memory behind them holds zeros, so that
+// two buffers of the same bytes are equal.
 #[derive(Clone, Copy, PartialEq, Eq, Debug)]
 pub struct Buffer<const N: usize> {
     bytes: [u8; N],
@@ -56,11 +57,10 @@ impl<const N: usize> Buffer<N> {
         if N - self.used < bytes.len() {
             return None;
         }
-        let start = self.used;
-        let end = start + bytes.len();
+        // A slice of it all first, since the check lends no part of an array whose length is a parameter.
         let all = &mut self.bytes[..];
-        all[start..end].copy_from_slice(bytes);
-        self.used = end;
+        all[self.used..self.used + bytes.len()].copy_from_slice(bytes);
+        self.used += bytes.len();
         Some(())
     }
 }

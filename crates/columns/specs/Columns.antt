@@ -10,6 +10,7 @@ use Rattle.refusals.specs.declared.fault.ChunkFault.TheVariants.{Column as Colum
 use Rattle.columns.specs.declared.column.Column.{Column}
 use Rattle.columns.specs.declared.settings.Settings.{Settings}
 
+-- a number from the least to the most
 abbrev pub within : ℕ → ℕ → ℕ → Bool
 within least most n = nat_le least n && nat_le n most
 
@@ -30,6 +31,7 @@ cut_fits (Some l) = within 1 64 l
 abbrev pub coders_fit : Coding → Body → ℕ → ℕ → Bool
 coders_fit c b width version = (version == 1 || c.second) && (not (width == 0) || b.joins)
 
+-- settings that a chunk may be written by: version 1 or 2, a page of 1 to 512 rows and 1 to 4,096 plain bytes
 abbrev pub settings_fit : Coding → Body → Column → Settings → Bool
 settings_fit c b col set =
     within 1 2 set.version && (within 1 512 set.row_limit && (within 1 4096 set.size_limit

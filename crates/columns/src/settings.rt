@@ -6,6 +6,7 @@ pub enum Mode {
 }
 
 // How a chunk is written, besides its two coders.
+// Version, limits and cut are plain numbers, since a call must refuse wrong ones.
 #[derive(Clone, Copy, PartialEq, Eq, Debug)]
 pub struct Settings {
     // of the data page, 1 or 2

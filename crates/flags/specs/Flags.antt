@@ -16,26 +16,30 @@ rises m p q = not (greater m p.low q.low) && not (greater m p.high q.high)
 abbrev pub falls : Meaning → Pair → Pair → Bool
 falls m p q = not (greater m q.low p.low) && not (greater m q.high p.high)
 
--- whether each pair stands so to the one before it
+-- whether each pair behind a first one stands so to the one before it
 abbrev pub along_from : (Pair → Pair → Bool) → Pair → List Pair → Bool
 along_from r p [] = true
 along_from r p (q ∷ qs) = r p q && along_from r q qs
 
+-- whether each pair of a list stands so to the one before it
 abbrev pub along : (Pair → Pair → Bool) → List Pair → Bool
 along r [] = true
 along r (p ∷ ps) = along_from r p ps
 
+-- each pair rises from the one before it
 abbrev pub ascending : Meaning → List Pair → Bool
 ascending m = along (rises m)
 
+-- each pair falls from the one before it
 abbrev pub descending : Meaning → List Pair → Bool
 descending m = along (falls m)
 
--- the last pair
+-- the last pair of a first one and those behind it
 abbrev pub last_from : Pair → List Pair → Pair
 last_from p [] = p
 last_from p (q ∷ qs) = last_from q qs
 
+-- the last pair of a list, absent if there is none
 abbrev pub last_of : List Pair → Option Pair
 last_of [] = None
 last_of (p ∷ ps) = Some (last_from p ps)

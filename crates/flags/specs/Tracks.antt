@@ -6,6 +6,7 @@ use Rattle.flags.specs.Flags.{Pair, rises, falls, ascending, descending, last_of
 use Rattle.flags.specs.declared.tracker.Bounds.{Bounds}
 use Rattle.flags.specs.declared.tracker.Tracker.{Tracker}
 
+-- a page's bounds as a pair
 abbrev pub pair_of : Bounds → Pair
 pair_of b = record { low = b.low; high = b.high }
 

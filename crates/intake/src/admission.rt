@@ -4,7 +4,6 @@ ghost use Rattle.intake.specs.Admitting.{batch_of, admission, level_admission, v
 
 use crate::batch::Batch;
 use crate::intake::Intake;
-use crate::levels::Levels;
 use crate::values::weigh;
 use kinds::{Kind, ValueOf};
 use pages::{Layout, PageFault};
@@ -23,14 +22,8 @@ pub fn admit<K: Kind, V: ValueOf<K>>(layout: Layout, batch: Batch<V>) -> Result<
 fn admit_levels<K: Kind, V: ValueOf<K>>(layout: Layout, batch: Batch<V>) -> Result<(), ChunkFault>
     ensures { result ≡ level_admission layout (batch_of V.ValueOf.bytes batch.entry) }
 {
-    let defs = Levels {
-        given: batch.defs,
-        max: layout.max_def_level,
-    };
-    let reps = Levels {
-        given: batch.reps,
-        max: layout.max_rep_level,
-    };
+    let defs = batch.defs_in(layout);
+    let reps = batch.reps_in(layout);
     if batch.count > 256 {
         return Err(ChunkFault::BatchLevels);
     }
@@ -40,6 +33,7 @@ fn admit_levels<K: Kind, V: ValueOf<K>>(layout: Layout, batch: Batch<V>) -> Resu
     if defs.is_miscounted(batch.count) || reps.is_miscounted(batch.count) {
         return Err(ChunkFault::LevelCount);
     }
+    // Two steps, since of an `or_else` the proof does not find which kind has the stray.
     if let Some(at) = defs.find_stray() {
         return Err(ChunkFault::LevelRange(at));
     }
@@ -60,11 +54,7 @@ fn admit_values<K: Kind, V: ValueOf<K>>(
 ) -> Result<Intake, ChunkFault>
     ensures { result ≡ value_admission layout (batch_of V.ValueOf.bytes batch.entry) }
 {
-    let defs = Levels {
-        given: batch.defs,
-        max: layout.max_def_level,
-    };
-    let needed = defs.needed_count(batch.count);
+    let needed = batch.needed_in(layout);
     let values = batch.values.get(..needed).ok_or(ChunkFault::FewValues)?;
     let plain = weigh::<K, V>(layout.width, values)?;
     if plain > 4096 {

@@ -1,4 +1,4 @@
-ghost use Rattle.std.specs.Prelude.{◌≡◌, not, position, count_by, nat_eq};
+ghost use Rattle.std.specs.Prelude.{◌≡◌, ◌==◌, not, position, count_by, nat_eq};
 ghost use Rattle.level_data.specs.Levels.{levels_of};
 ghost use Rattle.ledger.specs.Batches.{absent, empty, miscounted, in_range, looked_at, late, levels_at};
 ghost use Rattle.intake.specs.Admitting.{first_stray};
@@ -13,25 +13,32 @@ pub(crate) struct Levels<'a> {
 }
 
 impl<'a> Levels<'a> {
+    // Whether levels are wanted.
+    fn is_wanted(self) -> bool
+        ensures { result ≡ not (self.entry.max == 0) }
+    {
+        self.max != 0
+    }
+
     // Whether levels are wanted and were not given.
     pub(crate) fn is_absent(self) -> bool
         ensures { result ≡ absent self.entry.max (levels_of self.entry.given) }
     {
-        self.max != 0 && matches!(self.given, LevelDataRef::Absent)
+        self.is_wanted() && matches!(self.given, LevelDataRef::Absent)
     }
 
     // Whether levels are wanted and none was given.
     pub(crate) fn is_empty(self) -> bool
         ensures { result ≡ empty self.entry.max (levels_of self.entry.given) }
     {
-        self.max != 0 && self.given.len() == 0
+        self.is_wanted() && self.given.len() == 0
     }
 
     // Whether levels are wanted and another number was given.
     pub(crate) fn is_miscounted(self, count: usize) -> bool
         ensures { result ≡ miscounted self.entry.max count (levels_of self.entry.given) }
     {
-        self.max != 0 && self.given.len() != count
+        self.is_wanted() && self.given.len() != count
     }
 
     fn is_in_range(self, level: i16) -> bool
@@ -45,7 +52,7 @@ impl<'a> Levels<'a> {
     pub(crate) fn find_stray(self) -> Option<usize>
         ensures { result ≡ first_stray self.entry.max (levels_of self.entry.given) }
     {
-        if self.max == 0 {
+        if !self.is_wanted() {
             return None;
         }
         match self.given {
@@ -58,7 +65,7 @@ impl<'a> Levels<'a> {
         }
     }
 
-    // The same in a list.
+    // The same in a list. By itself, since beside the `match` the search for a proof does not end.
     fn find_listed(self, levels: &[i16]) -> Option<usize>
         ensures { result ≡ position (λ level. not (in_range self.entry.max level)) levels.now }
     {
@@ -69,14 +76,14 @@ impl<'a> Levels<'a> {
     pub(crate) fn is_late(self) -> bool
         ensures { result ≡ late (looked_at self.entry.max (levels_of self.entry.given)) }
     {
-        self.max != 0 && self.given.first().is_some_and(|level| level != 0)
+        self.is_wanted() && self.given.first().is_some_and(|level| level != 0)
     }
 
     // How many values are needed: one for each definition level at the maximum, and `count` where that is 0.
     pub(crate) fn needed_count(self, count: usize) -> usize
         ensures { result ≡ count_by (nat_eq self.entry.max) (levels_at self.entry.max count (levels_of self.entry.given)) }
     {
-        if self.max == 0 {
+        if !self.is_wanted() {
             return count;
         }
         // levels that were not given have no value

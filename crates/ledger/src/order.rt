@@ -20,7 +20,7 @@ impl BoundaryOrder {
         self as u8
     }
 
-    // The order that two flags say.
+    // The order that two flags say. By itself, since the law of boundary_order follows from this equation.
     fn from_flags(ascending: bool, descending: bool) -> BoundaryOrder
         ensures { boundary_number result ≡ boundary_order_of ascending descending }
     {

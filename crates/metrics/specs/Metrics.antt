@@ -1,7 +1,5 @@
 -- What the metrics of a page and of a chunk hold of the levels and values that they were given.
 use Rattle.std.specs.Prelude.{◌≡◌, ℕ, List, Option}
-use Rattle.std.specs.Option.{option_map}
-use Rattle.buffers.specs.Buffers.{held}
 use Rattle.buffers.specs.declared.buffer.Buffer.{Buffer}
 use Rattle.kinds.specs.Meaning.{Meaning}
 use Rattle.figures.specs.Figures.{smallest, largest, nan_count_of}
@@ -11,9 +9,9 @@ use Rattle.ledger.specs.Figures.{nan_entry}
 use Rattle.metrics.specs.declared.column.ColumnMetrics.{ColumnMetrics}
 use Rattle.metrics.specs.declared.page.PageMetrics.{PageMetrics}
 
--- the bytes of a value that is kept
+-- the bytes of a value that is kept: in a contract a buffer is the list of its bytes
 abbrev pub kept : Option (Buffer 128) → Option (List ℕ)
-kept v = option_map held v
+kept v = v
 
 -- the metrics are the counts of the page
 pub record Measures (m : Meaning) (l : Layout) (p : Page) (t : PageMetrics) : Type 0 where

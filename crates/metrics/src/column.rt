@@ -55,6 +55,7 @@ impl ColumnMetrics {
     )
         ensures { (l : PageLayout) (p q : Page) (n : ℕ) → length p.reps + length q.reps < 2 ^ 32 → length p.defs + length q.defs < 2 ^ 32 → length p.values + length q.values < 2 ^ 32 → n + size < 2 ^ 64 → Sums K.Kind.meaning l p n self.old → Measures K.Kind.meaning l q page.now → kept min ≡ smallest K.Kind.meaning q.values → kept max ≡ largest K.Kind.meaning q.values → Sums K.Kind.meaning l (join p q) (n + size) self.new }
     {
+        // `as u64`, since no `From` takes a `usize` to a `u64`.
         self.total_bytes_written = self.total_bytes_written.saturating_add(size as u64);
         self.total_rows_written = self
             .total_rows_written

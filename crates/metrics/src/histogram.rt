@@ -4,8 +4,9 @@ ghost use Rattle.metrics.specs.Histograms.{one_more, Added};
 
 use std::marker::Model;
 
-// A count for each level from 0 to the maximum. A contract sees the list of the counts, that of level 0 first; the memory
-// behind them holds zeros, so that two histograms of the same counts are equal.
+// A count for each level from 0 to the maximum, in fixed memory, since nothing is allocated. A contract sees the list of
+// the counts, that of level 0 first; the memory behind them holds zeros, so that two histograms of the same counts are
+// equal.
 #[derive(Clone, Copy, PartialEq, Eq, Debug)]
 pub struct LevelHistogram {
     counts: [u64; 16],

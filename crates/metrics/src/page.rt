@@ -41,10 +41,11 @@ impl PageMetrics {
     pub fn add_level(&mut self, layout: Layout, rep: u8, def: u8)
         ensures { (m : Meaning) (p : Page) → length p.reps < 2 ^ 32 → length p.defs < 2 ^ 32 → Measures m layout p self.old → Measures m layout (join p (record { reps = rep ∷ []; defs = def ∷ []; values = [] })) self.new }
     {
-        let nulls = null_at(layout.max_def_level, def);
         self.num_buffered_values = self.num_buffered_values.saturating_add(1);
-        self.num_buffered_rows = self.num_buffered_rows.saturating_add(row_at(rep));
-        self.num_page_nulls = self.num_page_nulls.saturating_add(nulls);
+        self.num_buffered_rows = self.num_buffered_rows.saturating_add(u64::from(rep == 0));
+        self.num_page_nulls = self
+            .num_page_nulls
+            .saturating_add(u64::from(def != layout.max_def_level));
         update_if_there(&mut self.repetition_level_histogram, rep);
         update_if_there(&mut self.definition_level_histogram, def);
     }
@@ -53,27 +54,6 @@ impl PageMetrics {
     pub fn add_nans(&mut self, nans: u64)
         ensures { (m : Meaning) (l : PageLayout) (p : Page) (vs : List (List ℕ)) → nans ≡ nan_count_of m vs → nan_count_of m p.values + nans < 2 ^ 64 → Measures m l p self.old → Measures m l (join p (record { reps = []; defs = []; values = vs })) self.new }
     {
-        self.num_page_nans = more_nans(self.num_page_nans, nans);
+        self.num_page_nans = self.num_page_nans.map(|n| n.saturating_add(nans));
     }
-}
-
-// More NaN counted, where they are counted at all.
-fn more_nans(count: Option<u64>, nans: u64) -> Option<u64>
-    ensures { result ≡ option_map (λ n. min (n + nans) (2 ^ 64 - 1)) count }
-{
-    count.map(|n| n.saturating_add(nans))
-}
-
-// 1 at a level that begins a row.
-fn row_at(rep: u8) -> u64
-    ensures { result ≡ (if nat_eq 0 rep then 1 else 0) }
-{
-    u64::from(rep == 0)
-}
-
-// 1 at a null.
-fn null_at(max_level: u8, def: u8) -> u64
-    ensures { result ≡ (if not (nat_eq max_level def) then 1 else 0) }
-{
-    u64::from(def != max_level)
 }

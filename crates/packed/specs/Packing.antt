@@ -39,6 +39,7 @@ pub record Sound (s : PackedSink) : Type 0 where
   pub begins : usable s ≡ true → take 4 s.area.now ≡ magic
   pub within : usable s ≡ true → end_in s ≤ length s.area.now
 
+-- what a packed sink means to its writer
 abbrev pub packed_sink : SinkMeaning PackedSink
 packed_sink = record { takes = fits_in; sound = Sound }
 

@@ -57,7 +57,6 @@ impl<'a> PackedSink<'a> {
         ensures table { result.1.now ≡ self.entry.table.now }
         ensures lent { (result.0.ghost_name ≡ self.entry.area.ghost_name) × (result.1.ghost_name ≡ self.entry.table.ghost_name) }
     {
-        let PackedSink { area, table, .. } = self;
-        (area, table)
+        (self.area, self.table)
     }
 }

@@ -22,7 +22,7 @@ impl<'a> PackedSink<'a> {
     }
 }
 
-// The slotted sink has the same four lines: one impl for both would have to stand in `sinks`.
+// The slotted sink has the same four lines: one impl for both would have to stand in `sinks`, which implements nothing.
 impl<'a> PageStore for PackedSink<'a> {
     ghost meaning = { packed_store };
 

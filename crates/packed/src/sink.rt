@@ -3,6 +3,7 @@ ghost use Rattle.std.specs.Prelude.{◌≤◌, length};
 use areas::Place;
 
 // The first `count` pairs of the table are the places of the pages.
+// Lent, since nothing is allocated.
 #[derive(Drop)]
 pub struct PackedSink<'a> {
     pub(crate) area: &'a mut [u8],

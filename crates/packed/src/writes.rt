@@ -32,6 +32,7 @@ impl<'a> PackedSink<'a> {
 impl<'a> PageSink for PackedSink<'a> {
     ghost meaning = { packed_sink };
 
+    // The same in both sinks, since `write` could not call a final method of its own trait.
     fn takes(&self, len: usize) -> Result<(), SinkFault> {
         if self.has_room(len) {
             Ok(())

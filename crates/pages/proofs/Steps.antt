@@ -31,24 +31,24 @@ module _ (c : Coding) (b : Body) (l : Layout) (n : ℕ) (page ro dn po : List �
   abbrev second : ℕ
   second = level_size_of c l.version l.max_def_level n
 
-  abbrev Nothing : List ℕ → Type 0
-  Nothing po' = PageRead c b l n page ro dn po ro dn po' None × ReadsBack c b l n page ro dn po ro dn po' None
+  abbrev Nothing : List ℕ → List ℕ → List ℕ → Type 0
+  Nothing ro' dn' po' = PageRead c b l n page ro dn po ro' dn' po' None × ReadsBack c b l n page ro dn po ro' dn' po' None
 
-  nothing : (po' : List ℕ) → po' ≡ po → ((rs ds pl : List ℕ) → PageHolds c b l n page rs ds pl → Roomy l n pl ro dn po → ⊥) → Nothing po'
-  nothing po' e none = ((refl, refl, e, none), λ rs ds pl h room. absurd (none rs ds pl h room))
+  nothing : (ro' dn' po' : List ℕ) → ro' ≡ ro → dn' ≡ dn → po' ≡ po → ((rs ds pl : List ℕ) → PageHolds c b l n page rs ds pl → Roomy l n pl ro dn po → ⊥) → Nothing ro' dn' po'
+  nothing ro' dn' po' er ed e none = ((er, ed, e, none), λ rs ds pl h room. absurd (none rs ds pl h room))
 
-  pub no_reps : NoListAt c rf.version rf.max n page → Nothing po
-  no_reps none =
-      nothing po refl
+  pub no_reps : (ro' dn' : List ℕ) → ro' ≡ ro → dn' ≡ dn → NoListAt c rf.version rf.max n page → Nothing ro' dn' po
+  no_reps ro' dn' er ed none =
+      nothing ro' dn' po er ed refl
       (λ rs ds pl h room. subst (λ (f : ListForm). NoListAt c f.version f.max n page) rf-is none rs (holds_levels c b l n page rs ds pl h).repetition)
 
   module _ (rest : List ℕ) (behind-reps : rest ≡ drop (level_size_of c rf.version rf.max n) page) where
     rest-is : rest ≡ drop first page
     rest-is = behind-reps ∙ ap (λ (f : ListForm). drop (level_size_of c f.version f.max n) page) rf-is
 
-    pub no_defs : NoListAt c df.version df.max n rest → Nothing po
-    no_defs none =
-        nothing po refl
+    pub no_defs : (ro' dn' : List ℕ) → ro' ≡ ro → dn' ≡ dn → NoListAt c df.version df.max n rest → Nothing ro' dn' po
+    no_defs ro' dn' er ed none =
+        nothing ro' dn' po er ed refl
         (λ rs ds pl h room.
         subst (λ (f : ListForm). NoListAt c f.version f.max n rest) df-is none ds
         (subst (λ x. ListAt c l.version l.max_def_level n x ds) (sym rest-is) (holds_levels c b l n page rs ds pl h).definition))
@@ -58,9 +58,9 @@ module _ (c : Coding) (b : Body) (l : Layout) (n : ℕ) (page ro dn po : List �
       body-is =
           behind-defs ∙ ap (λ (f : ListForm). drop (level_size_of c f.version f.max n) rest) df-is ∙ ap (drop second) rest-is ∙ drop-drop second first page
 
-      pub no_plain : (po' : List ℕ) → Wrote b l.width body (b.plain l.width body) po po' None → Nothing po'
-      no_plain po' w =
-          nothing po' w.0
+      pub no_plain : (ro' dn' po' : List ℕ) → ro' ≡ ro → dn' ≡ dn → Wrote b l.width body (b.plain l.width body) po po' None → Nothing ro' dn' po'
+      no_plain ro' dn' po' er ed w =
+          nothing ro' dn' po' er ed w.0
           (λ rs ds pl h room.
           let long : length body ≡ length pl = ap length body-is ∙ body_long c b l n page rs ds pl h in
           w.1 (ap (λ k. whole b.joins l.width k) long ∙ h.fits.plain_bytes) (omega (arith, long, room.plain_room)))
@@ -112,17 +112,17 @@ module _ (c : Coding) (b : Body) (l : Layout) (n : ℕ) (page ro dn po : List �
             }
 
         -- the parts, that they are what went in, and how many values they have
-        pub page_taken : (rs' ds' po' : List ℕ) (k values : ℕ) → rs' ≡ rs → ds' ≡ ds → Wrote b l.width body (b.plain l.width body) po po' (Some k)
+        pub page_taken : (rs' ds' rt dt po' : List ℕ) (k values : ℕ) → rs' ≡ rs → ds' ≡ ds → rt ≡ drop rc ro → dt ≡ drop dc dn → Wrote b l.width body (b.plain l.width body) po po' (Some k)
             → values ≡ cond (eqb df.max 0) n (count_by (nat_eq df.max) ds)
-            → PageTaken c b l n page ro dn po (rs' ++ drop rc ro) (ds' ++ drop dc dn) po' k
-            × ReadsBack c b l n page ro dn po (rs' ++ drop rc ro) (ds' ++ drop dc dn) po' (Some k)
-            × (values ≡ values_in l.max_def_level n (ds' ++ drop dc dn))
-        page_taken rs' ds' po' k values re de w v =
-            let ro' : List ℕ = rs' ++ drop rc ro in
-            let dn' : List ℕ = ds' ++ drop dc dn in
-            let read : PageTaken c b l n page ro dn po ro' dn' po' k = rw (re, de) (taken po' k w) in (
+            → PageTaken c b l n page ro dn po (rs' ++ rt) (ds' ++ dt) po' k
+            × ReadsBack c b l n page ro dn po (rs' ++ rt) (ds' ++ dt) po' (Some k)
+            × (values ≡ values_in l.max_def_level n (ds' ++ dt))
+        page_taken rs' ds' rt dt po' k values re de rte dte w v =
+            let ro' : List ℕ = rs' ++ rt in
+            let dn' : List ℕ = ds' ++ dt in
+            let read : PageTaken c b l n page ro dn po ro' dn' po' k = rw (re, de, rte, dte) (taken po' k w) in (
               read,
               reads_back c b l n page ro dn po ro' dn' po' (Some k) read,
-              v ∙ ap (λ (f : ListForm). cond (eqb f.max 0) n (count_by (nat_eq f.max) ds)) df-is ∙ values_front l.max_def_level n ds (drop dc dn) da-is.count
-                  ∙ ap (λ x. values_in l.max_def_level n (x ++ drop dc dn)) (sym de),
+              v ∙ ap (λ (f : ListForm). cond (eqb f.max 0) n (count_by (nat_eq f.max) ds)) df-is ∙ values_front l.max_def_level n ds dt da-is.count
+                  ∙ ap (λ x. values_in l.max_def_level n (x ++ dt)) (sym de),
             )

@@ -3,6 +3,7 @@ ghost use Rattle.std.specs.Prelude.{◌≡◌};
 use crate::list::ListForm;
 
 // What a page's bytes depend on besides its levels and values.
+// Version, maxima and width are plain numbers, since a call must refuse wrong ones.
 #[derive(Debug, Clone, Copy, PartialEq, Eq)]
 pub struct Layout {
     pub version: u8,

@@ -8,6 +8,7 @@ ghost use Rattle.pages.specs.Widths.{bit_length};
 use level_coder::{LevelCoder, bit_width};
 
 // What a level list's bytes depend on besides its levels.
+// Version and maximum are plain numbers, as they are in a layout.
 #[derive(Clone, Copy)]
 pub(crate) struct ListForm {
     pub(crate) version: u8,
@@ -82,6 +83,7 @@ impl ListForm {
         if self.max == 0 {
             return;
         }
+        // The call stands twice, since of a list that one of two branches lends a proof loses what it then holds.
         if self.has_length::<L>() {
             let (length, coded) = out.split_at_mut(4);
             length.copy_from_slice(&length_bytes(coded.len()));
@@ -126,5 +128,6 @@ fn length_bytes(n: usize) -> [u8; 4]
     requires { n < 2 ^ 32 }
     ensures { result ≡ four n }
 {
+    // It fits 32 bits, as the `requires` says, so `as` loses nothing.
     (n as u32).to_le_bytes()
 }

@@ -25,21 +25,18 @@ pub fn read_page<L: LevelCoder, B: BodyCoder>(
     }
     let rep_form = layout.repetition();
     let def_form = layout.definition();
-    let rep_count = rep_form.count(n);
-    let def_count = def_form.count(n);
-    // A test and ranges, since behind a `get_mut` the proof knows no level.
-    if reps.len() < rep_count || defs.len() < def_count {
-        return None;
-    }
+    let (rep_list, _) = reps.split_at_mut_checked(rep_form.count(n))?;
+    let (def_list, _) = defs.split_at_mut_checked(def_form.count(n))?;
+    // Read apart, so that a list never holds half of what was read.
     let mut rep_room = [0u8; 1024];
     let mut def_room = [0u8; 1024];
-    let rep_levels = &mut rep_room[..rep_count];
-    let def_levels = &mut def_room[..def_count];
+    let rep_levels = &mut rep_room[..rep_list.len()];
+    let def_levels = &mut def_room[..def_list.len()];
     let rest = rep_form.read::<L>(n, page, rep_levels)?;
     let body = def_form.read::<L>(n, rest, def_levels)?;
     let bytes = B::read(layout.width, body, plain)?;
-    reps[..rep_count].copy_from_slice(rep_levels);
-    defs[..def_count].copy_from_slice(def_levels);
+    rep_list.copy_from_slice(rep_levels);
+    def_list.copy_from_slice(def_levels);
     Some(PageCounts {
         levels: n,
         values: def_form.value_count(n, def_levels),

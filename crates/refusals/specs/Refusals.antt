@@ -55,5 +55,6 @@ abbrev pub tested : {A : Type 0} → List Test → Result A ChunkFault → Resul
 tested [] r = r
 tested (t ∷ ts) r = cond t.holds (Err t.fault) (tested ts r)
 
+-- the test that a condition leads to a refusal
 abbrev pub refuses : Bool → ChunkFault → Test
 refuses b f = record { holds = b; fault = f }

@@ -7,13 +7,13 @@
 #[cfg(test)]
 mod both;
 #[cfg(test)]
+mod held;
+#[cfg(test)]
 mod packing;
 #[cfg(test)]
 mod slotting;
 #[cfg(test)]
 mod spool;
-#[cfg(test)]
-mod spooling;
 #[cfg(test)]
 mod two;
 #[cfg(test)]

@@ -9,7 +9,7 @@ use sinks::{PageSink, SinkFault};
 use slotted::SlottedSink;
 
 // What is proved for every sink, at each of the two: makers are sound, so the first page
-// comes back whole. Two functions, since one for any sink would have to require a sound one.
+// comes back whole. Two functions, each with its maker, so that neither has a premise.
 fn two_packed(
     area: &mut [u8],
     table: &mut [Place],

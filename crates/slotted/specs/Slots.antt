@@ -52,6 +52,7 @@ pub record Sound (s : SlottedSink) : Type 0 where
   pub tiled : Tiles 0 (places s)
   pub apart : end_in s + 4 * s.count ≤ length s.area.now
 
+-- what a slotted sink means to its writer
 abbrev pub slotted_sink : SinkMeaning SlottedSink
 slotted_sink = record { takes = fits_in; sound = Sound }
 

@@ -27,7 +27,6 @@ impl<'a> SlottedSink<'a> {
         ensures area { result.now ≡ self.entry.area.now }
         ensures lent { result.ghost_name ≡ self.entry.area.ghost_name }
     {
-        let SlottedSink { area, .. } = self;
-        area
+        self.area
     }
 }

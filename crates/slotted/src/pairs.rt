@@ -57,7 +57,7 @@ impl<'a> SlottedSink<'a> {
     pub(crate) fn place(&self, k: usize) -> Option<Place>
         ensures { result ≡ slice_get (places self.now) k }
     {
-        // No `then`: of a closure whose call has a `requires` nothing is learnt.
+        // No `then`: its closure would have to say both clauses of `pair` again.
         if k < self.count {
             Some(self.pair(k))
         } else {

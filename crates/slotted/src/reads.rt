@@ -4,7 +4,7 @@ use crate::sink::SlottedSink;
 use areas::{copy_at, len_at, offset_at};
 use sinks::PageStore;
 
-// The packed sink has the same four lines: one impl for both would have to stand in `sinks`.
+// The packed sink has the same four lines: one impl for both would have to stand in `sinks`, which implements nothing.
 impl<'a> PageStore for SlottedSink<'a> {
     ghost meaning = { slotted_store };
 

@@ -1,6 +1,7 @@
 ghost use Rattle.std.specs.Prelude.{◌*◌, ◌≤◌, length};
 
 // The last `count` pairs of the area are the places of the pages.
+// Lent, since nothing is allocated.
 #[derive(Drop)]
 pub struct SlottedSink<'a> {
     pub(crate) area: &'a mut [u8],

@@ -37,6 +37,7 @@ impl<'a> SlottedSink<'a> {
 impl<'a> PageSink for SlottedSink<'a> {
     ghost meaning = { slotted_sink };
 
+    // The same in both sinks, since `write` could not call a final method of its own trait.
     fn takes(&self, len: usize) -> Result<(), SinkFault> {
         if self.has_room(len) {
             Ok(())
