@@ -1,5 +1,5 @@
 -- One pair more at the end: the order holds on if it held and the last pair stands so to the new one.
-use Rattle.std.proofs.Common.{◌≡◌, Bool, true, ◌&&◌, List, [], ◌∷◌, ◌++◌, Some, None, Option, MatchOption, sym, refl, ap, ◌∙◌}
+use Rattle.std.proofs.Common.{◌≡◌, Bool, ◌&&◌, List, [], ◌∷◌, ◌++◌, Some, sym, refl, ap, ◌∙◌}
 use Rattle.std.proofs.Math.Bool.{and_assoc, and-true}
 use Rattle.std.specs.Option.{option_map}
 use Rattle.kinds.specs.Meaning.{Meaning}
@@ -38,8 +38,3 @@ tracks_more m ps t page up down s u d = record {
       d ∙ ap (λ b. b && goes_on (falls m) (option_map pair_of t.last) (pair_of page)) s.descending
       ∙ ap (λ o. descending m ps && goes_on (falls m) o (pair_of page)) s.last ∙ sym (along_push (falls m) ps (pair_of page));
 }
-
--- what is asked of the last page alone, and holds where there is none
-pub goes : (r : Pair → Pair → Bool) (last : Option Bounds) (p : Pair) (b : Bool) → MatchOption last (b ≡ true) (λ q. b ≡ r (pair_of q) p) → b ≡ goes_on r (option_map pair_of last) p
-goes r None p b e = e
-goes r (Some q) p b e = e

@@ -52,11 +52,27 @@ impl Tracker {
     pub fn add<K: Kind>(&mut self, page: Bounds)
         ensures { (ps : List Pair) → Tracks K.Kind.meaning ps self.old → Tracks K.Kind.meaning (ps ++ (pair_of page ∷ [])) self.new }
     {
-        *self = Tracker {
-            ascending: self.ascending && self.last.is_none_or(|last| last.rises::<K>(&page)),
-            descending: self.descending && self.last.is_none_or(|last| page.rises::<K>(&last)),
-            last: Some(page),
-        };
+        (self.ascending, self.descending) = self.orders_with::<K>(&page);
+        self.last = Some(page);
+    }
+
+    // Both orders with a page more. A match, since with a closure on the last page the check finds no proof by itself.
+    fn orders_with<K: Kind>(&self, page: &Bounds) -> (bool, bool)
+        ensures ascending { result.0 ≡ (self.now.ascending && goes_on (rises K.Kind.meaning) (option_map pair_of self.now.last) (pair_of page.now)) }
+        ensures descending { result.1 ≡ (self.now.descending && goes_on (falls K.Kind.meaning) (option_map pair_of self.now.last) (pair_of page.now)) }
+    {
+        let Tracker {
+            last,
+            ascending,
+            descending,
+        } = *self;
+        match last {
+            None => (ascending, descending),
+            Some(last) => (
+                ascending && last.rises::<K>(page),
+                descending && page.rises::<K>(&last),
+            ),
+        }
     }
 
     pub fn is_ascending(self) -> bool

@@ -54,6 +54,13 @@ impl PageMetrics {
     pub fn add_nans(&mut self, nans: u64)
         ensures { (m : Meaning) (l : PageLayout) (p : Page) (vs : List (List ℕ)) → nans ≡ nan_count_of m vs → nan_count_of m p.values + nans < 2 ^ 64 → Measures m l p self.old → Measures m l (join p (record { reps = []; defs = []; values = vs })) self.new }
     {
-        self.num_page_nans = self.num_page_nans.map(|n| n.saturating_add(nans));
+        self.num_page_nans = more_nans(self.num_page_nans, nans);
     }
+}
+
+// More NaN counted, where they are counted at all. By itself, so that its equation is proved here, without the page.
+fn more_nans(count: Option<u64>, nans: u64) -> Option<u64>
+    ensures { result ≡ option_map (λ n. min (n + nans) (2 ^ 64 - 1)) count }
+{
+    count.map(|n| n.saturating_add(nans))
 }

@@ -1,4 +1,4 @@
-use Rattle.std.proofs.Common.{◌+◌, ◌-◌, ◌^◌, min, not, eqb, length, count_by, sym, ap, ◌∙◌, rules, arith}
+use Rattle.std.proofs.Common.{◌+◌, ◌-◌, ◌^◌, min, not, eqb, length, count_by, sym, ap, ◌∙◌}
 use Rattle.std.specs.Option.{option_map}
 use Rattle.std.proofs.lemmas.List.{append-nil}
 use Rattle.ledger.specs.Pages.{counts}
@@ -14,7 +14,7 @@ returns c = λ m l p vs is few t.
       rows = t.rows ∙ ap (count_by (eqb 0)) reps;
       nulls = t.nulls ∙ ap (count_by (λ d. not (eqb l.max_def_level d))) defs;
       nans =
-          (search (rules, arith)) ∙ ap (option_map (λ k. min (k + c.args.nans) (2 ^ 64 - 1))) t.nans
+          c.more_nans-self.ensures ∙ ap (option_map (λ k. min (k + c.args.nans) (2 ^ 64 - 1))) t.nans
           ∙ entry-joined m p.values vs c.args.nans is few;
       reps = t.reps ∙ ap (counts l.max_rep_level) reps;
       defs = t.defs ∙ ap (counts l.max_def_level) defs;
