@@ -2,7 +2,10 @@ use crate::levels_ref::LevelDataRef;
 
 // Whether there are `len` levels, `first` before the others and none behind, `values` of them at level 1.
 fn has(d: LevelDataRef, len: usize, first: Option<i16>, values: usize) -> bool {
-    d.len() == len && d.first() == first && d.value_at(len).is_none() && d.value_count(9, 1) == values
+    d.len() == len
+        && d.first() == first
+        && d.value_at(len).is_none()
+        && d.value_count(9, 1) == values
 }
 
 // The same of a slice, if there is one.
