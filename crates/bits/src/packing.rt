@@ -5,6 +5,7 @@ ghost use Rattle.bits.specs.Packing.{Room, Written, Packs, Unpacks, Repacked};
 use crate::order::BitOrder;
 
 // Writes numbers of `q` bits into all of `out`, from the bits of numbers of `p` bits and 0 behind the last.
+// Widths become `usize` by `as`, here and below, since no `From` takes a `u32` there.
 // A turn goes through one word: `q` numbers of `p` bits are as many bits as `p` numbers of `q`.
 fn repack(order: BitOrder, src: &[u8], p: u32, q: u32, out: &mut [u8])
     requires to { q ≤ 8 }

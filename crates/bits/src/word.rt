@@ -31,6 +31,7 @@ impl BitOrder {
         ensures bits { bits_of self held acc ≡ bits_of self width result.0 ++ bits_of self (held - width) result.1 }
     {
         match self {
+            // What is left of `width` bits fits a byte, so `as` loses nothing.
             Self::LeastFirst => ((acc & ((1 << width) - 1)) as u8, acc >> width),
             Self::MostFirst => {
                 let left = held - width;

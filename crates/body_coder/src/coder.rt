@@ -6,7 +6,7 @@ pub trait BodyCoder {
     // What the coder writes and reads, and the two constants below.
     ghost body: { Body };
 
-    // The encoding's number in the format.
+    // The encoding, by its number in the format.
     const ENCODING: u8;
 
     // Whether the coder admits BYTE_ARRAY, of which the plain bytes have no common width.

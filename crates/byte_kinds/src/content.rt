@@ -13,7 +13,8 @@ pub trait Content: Copy {
     fn compare_greater(a: &[u8], b: &[u8]) -> bool
         ensures { result ≡ order.greater a.now b.now };
 
-    // The lower bound of a value at the length: how long a front of it, and whether that cuts it.
+    // The lower bound of a value at the length: how long a front of it, and whether that cuts it. A pair, as every kind's cuts
+    // answer.
     fn truncate_min_value(value: &[u8], length: usize) -> (usize, bool)
         ensures { CutBelow (cuts.lower length value.now) value.now result };
 

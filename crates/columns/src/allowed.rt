@@ -84,6 +84,7 @@ fn width_bytes(width: usize) -> usize
 }
 
 // What a page's bytes depend on besides its levels and values.
+// Column and settings are two arguments, as in `check`.
 pub fn layout(column: Column, settings: Settings) -> Layout
     ensures { result ≡ layout_of column settings }
 {

@@ -2,7 +2,8 @@ ghost use Rattle.std.specs.Prelude.{◌≡◌, ℕ, ◌+◌, ◌-◌, ◌*◌, �
 ghost use Rattle.std.proofs.Common.{refl, lit<, lit≤};
 ghost use Rattle.ieee.specs.Formats.{Format, binary16, binary32, binary64};
 
-// A type whose values are the bit patterns of a format.
+// A type whose values are the bit patterns of a format. The language makes each of these types a `u64` by itself, and takes no
+// impl for a bare parameter, so each type has an impl.
 pub trait Pattern: Copy + Into<u64> {
     // The format.
     ghost format: { Format };

@@ -29,7 +29,6 @@ impl ValueOf<Int32> for i32 {
     ghost bytes = { λ v. four (of_z w32 v) };
 
     fn as_bytes<'a>(&'a self, room: &'a mut [u8; 8]) -> &'a [u8] {
-        // By the type's name, so that the edit int32_bytes finds it once in this file.
         i32::lend(*self, room)
     }
 }

@@ -10,7 +10,7 @@ use crate::physical::PhysicalType;
 pub trait Kind: Copy {
     ghost meaning: { Meaning };
 
-    // The kind's own number.
+    // The kind's own number, as the rules list them.
     const NUMBER: u8;
 
     ghost NUMBER: { ℕ };

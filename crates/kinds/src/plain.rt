@@ -48,6 +48,7 @@ pub fn read_plain(width: usize, bytes: &[u8]) -> Option<(&[u8], usize)>
     let [a, b, c, d, rest @ ..] = bytes else {
         return None;
     };
+    // By `as`, since no `From` takes a `u32` to a `usize`.
     let length = u32::from_le_bytes([*a, *b, *c, *d]) as usize;
     if length > 128 {
         return None;

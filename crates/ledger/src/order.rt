@@ -17,6 +17,7 @@ impl BoundaryOrder {
     pub fn number(self) -> u8
         ensures { result ≡ boundary_number self }
     {
+        // The discriminant is that number.
         self as u8
     }
 

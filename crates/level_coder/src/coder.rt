@@ -6,7 +6,7 @@ pub trait LevelCoder {
     // What the coder writes: its bytes, how many they are, and the numbers below.
     ghost coding: { Coding };
 
-    // The encoding's number in the format.
+    // The encoding, by its number in the format.
     const ENCODING: u8;
 
     // Whether version 1 puts a length of 4 bytes before a list.

@@ -34,6 +34,7 @@ impl Header {
         requires { n ≤ 1024 }
         ensures { result ≡ header n }
     {
+        // By `as`, here and below, where the number fits.
         Self::uleb128((2 * n.div_ceil(8) + 1) as u16)
     }
 

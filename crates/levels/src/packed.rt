@@ -24,6 +24,7 @@ fn list_of(n: usize, b: u32) -> Option<LevelList>
         header: Header::of(n),
         n,
         b,
+        // By `as`, since no `From` takes a `u32` to a `usize`.
         len: n.div_ceil(8) * b as usize,
     })
 }

@@ -6,6 +6,7 @@ use crate::fault::Layer;
 // What a refusal says: its number, the layer that it began in, and a position.
 #[derive(Clone, Copy, PartialEq, Eq, Debug)]
 pub struct Said {
+    // of the list of refusals
     pub number: u8,
     pub layer: Layer,
     pub position: usize,

@@ -9,7 +9,8 @@ use packed::PackedSink;
 use sinks::{PageSink, SinkFault};
 use slotted::SlottedSink;
 
-// Holders of one sink, by its name: each passes writes on and gives the sink back.
+// Holders of one sink, by its name: each passes writes on and gives the sink back. Two types, since a holder of any sink is
+// the spool.
 #[derive(Drop)]
 struct HeldPacked<'a> {
     sink: PackedSink<'a>,

@@ -3,7 +3,8 @@ ghost use Rattle.strings.specs.Cut.{lower, upper, Exactly};
 
 use crate::increment::increment;
 
-// The lower bound of bytes at the length: how long a front of the value, and whether that cuts it.
+// The lower bound of bytes at the length: how long a front of the value, and whether that cuts it. A pair, as every kind's cuts
+// answer.
 pub fn truncate_min_value(value: &[u8], length: usize) -> (usize, bool)
     ensures { CutBelow (lower length value.now) value.now result }
 {

@@ -8,7 +8,7 @@ use crate::increment::{increment_utf8, last_raised};
 use crate::leads::is_lead;
 use crate::valid::as_text;
 
-// The lower bound of a string at the length: how long a front of it, and whether that cuts it.
+// The lower bound of a string at the length: how long a front of it, and whether that cuts it. A pair, as every kind's cuts answer.
 pub fn truncate_min_value(value: &[u8], length: usize) -> (usize, bool)
     ensures bound { CutBelow (lower length value.now) value.now result }
     ensures text { Text value.now → Text (take result.0 value.now) }
