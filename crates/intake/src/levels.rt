@@ -65,7 +65,7 @@ impl<'a> Levels<'a> {
         }
     }
 
-    // The same in a list. By itself, since beside the `match` the search for a proof does not end.
+    // The same in a list. By itself, since beside the `match` the search for a proof stops at a limit.
     fn find_listed(self, levels: &[i16]) -> Option<usize>
         ensures { result ≡ position (λ level. not (in_range self.entry.max level)) levels.now }
     {
