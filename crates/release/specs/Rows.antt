@@ -1,7 +1,7 @@
 -- A row of the day's log: a time, a vat and a hold temperature, between commas.
-use Rattle.std.specs.Prelude.{◌≡◌, ◌≢◌, ℕ, ◌+◌, ◌-◌, ◌*◌, Bool, true, false, ◌&&◌, ◌==◌, nat_lt, List, [], length, slice_index, Some, None, Option, Ok, Err, Result}
+use Rattle.std.specs.Prelude.{◌≡◌, ◌≢◌, ℕ, ◌+◌, ◌-◌, ◌*◌, Bool, true, false, not, ◌&&◌, ◌==◌, nat_lt, List, [], length, slice_index, Some, None, Option, Ok, Err, Result}
 use Rattle.std.specs.Char.{is_ascii_digit}
-use Rattle.std.specs.List.{before_first, after_first}
+use Rattle.std.specs.List.{before_first, after_first, position_or_len}
 use Rattle.std.specs.Borrow.{Bor}
 use Rattle.floats.specs.declared.bits.Bits.{Bits}
 use Rattle.release.specs.declared.row.Row.{Row}
@@ -15,10 +15,18 @@ before_comma bs = before_first (λ b. b == 44) bs
 abbrev pub after_comma : List ℕ → List ℕ
 after_comma bs = after_first (λ b. b == 44) bs
 
+-- whether a comma stands in a text
+abbrev pub has_comma : List ℕ → Bool
+has_comma bs = nat_lt (position_or_len (λ b. b == 44) bs) (length bs)
+
+-- whether a line has three cells, no fewer and no more
+abbrev pub has_three_cells : List ℕ → Bool
+has_three_cells line = has_comma line && has_comma (after_comma line) && not (has_comma (after_comma (after_comma line)))
+
 -- what taking the first cell off a text answers: the cell and what is behind its comma, or that there is no comma
 abbrev pub CellSplit : List ℕ → Result (Bor (List ℕ) × Bor (List ℕ)) BadRow → Type 0
-CellSplit bs (Ok p) = (p.0.now ≡ before_comma bs) × (p.1.now ≡ after_comma bs)
-CellSplit bs (Err e) = e ≡ Cells
+CellSplit bs (Ok p) = (p.0.now ≡ before_comma bs) × (p.1.now ≡ after_comma bs) × (has_comma bs ≡ true)
+CellSplit bs (Err e) = (e ≡ Cells) × (has_comma bs ≡ false)
 
 -- two digits that are a number below the limit
 abbrev pub below : ℕ → ℕ → ℕ → Bool
@@ -43,9 +51,9 @@ HoldRead cell (Err Hold) = cell ≢ []
 -- what reading a row answers: what its cells say, or which of them is wrong
 abbrev pub RowRead : List ℕ → Result Row BadRow → Type 0
 RowRead line (Ok row) =
-    (is_time (before_comma line) ≡ true) × (row.vat.now ≡ before_comma (after_comma line)) × (row.vat.now ≢ [])
+    (has_three_cells line ≡ true) × (is_time (before_comma line) ≡ true) × (row.vat.now ≡ before_comma (after_comma line)) × (row.vat.now ≢ [])
     × HoldRead (after_comma (after_comma line)) (Ok row.hold)
-RowRead line (Err Cells) = Unit {0}
+RowRead line (Err Cells) = has_three_cells line ≡ false
 RowRead line (Err Time) = is_time (before_comma line) ≡ false
 RowRead line (Err Vat) = before_comma (after_comma line) ≡ []
 RowRead line (Err Hold) = after_comma (after_comma line) ≢ []

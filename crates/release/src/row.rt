@@ -48,7 +48,7 @@ impl<'a> TryFrom<&'a str> for Row<'a> {
     fn try_from(line: &'a str) -> Result<Row<'a>, BadRow> {
         let (time, rest) = split_cell(line)?;
         let (vat, hold) = split_cell(rest)?;
-        if hold.contains(',') {
+        if split_cell(hold).is_ok() {
             return Err(BadRow::Cells);
         }
         if !is_time(time.as_bytes()) {
