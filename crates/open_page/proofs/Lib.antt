@@ -1,0 +1,4 @@
+pub mod Joining
+pub mod Pushing
+pub mod Filling
+pub mod Fitting
