@@ -1,0 +1,3 @@
+pub mod Pages
+pub mod Logs
+pub mod Records
