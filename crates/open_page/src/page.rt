@@ -60,6 +60,7 @@ impl OpenPage {
     // How many levels the page has.
     pub fn level_count(&self) -> usize
         ensures count { result ≡ length self.now.defs }
+        ensures few { result ≤ 1024 }
         ensures page { (m : Meaning) (l : PageLayout) (p : Page) → Opened m l p self.now → result ≡ levels p }
     {
         self.defs.as_slice().len()
@@ -138,6 +139,7 @@ impl OpenPage {
     ) -> Option<usize>
         ensures page { (m : Meaning) (p : Page) → Opened m layout p self.now → Joinable B.BodyCoder.body layout → Laid (page_bytes L.LevelCoder.coding B.BodyCoder.body layout p.reps p.defs (plains layout.width p.values)) out.old out.new result }
         ensures absent { result ≡ None → out.new ≡ out.old }
+        ensures within { (n : ℕ) → result ≡ Some n → n ≤ length out.new }
     {
         assemble::<L, B>(
             layout,

@@ -1,0 +1,109 @@
+-- What a batch leaves, from what writing it into the open page and settling the page leave.
+use Rattle.std.proofs.Common.{◌≡◌, ℕ, zero, suc, ◌+◌, ◌<◌, ◌≤◌, Bool, true, false, cond, not, ◌&&◌, ◌||◌, eqb, ltb, leb, ◌⊎◌, List, [], ◌∷◌, ◌++◌, length, Ok, Err, Result, sym, refl, ap, ◌∙◌, subst, ⊎_elim, count_by, arith}
+use Rattle.std.proofs.lemmas.Bool.{ltb-false, leb-false, not-false, and_parts, or_parts, cases_Bool, true≢false}
+use Rattle.sinks.specs.Stores.{StoreMeaning}
+use Rattle.sinks.specs.Sinks.{SinkMeaning}
+use Rattle.pages.specs.declared.layout.Layout.{Layout}
+use Rattle.refusals.specs.Refusals.{Test, tested}
+use Rattle.refusals.specs.declared.fault.ChunkFault.{ChunkFault}
+use Rattle.refusals.specs.declared.done.BatchDone.{BatchDone}
+use Rattle.ledger.specs.Pages.{Page, join, levels, rows, plains}
+use Rattle.ledger.specs.Batches.{Batch, needed, taken, intake_tests, Admitted}
+use Rattle.ledger.specs.Context.{Context, layout, plain_bytes, due, accepted}
+use Rattle.ledger.specs.Ledger.{Ledger, is_open, adds}
+use Rattle.ledger.specs.Answers.{written, done, batch_tests, settled}
+use Rattle.intake.specs.Admitting.{intake_of}
+use Rattle.intake.specs.declared.intake.Intake.{Intake}
+use Rattle.intake.proofs.Tested.{Passed, tested_err, tested_ok, passed_from_ok, ok_from_ok, passed_left, passed_right}
+use Rattle.intake.proofs.Admits.{admitted}
+use Rattle.open_page.specs.Pages.{WellFormed}
+use Rattle.open_page.specs.Opened.{Opened}
+use Rattle.open_page.specs.declared.page.OpenPage.{OpenPage}
+use Rattle.chunk.specs.Stands.{Before, Stands, Settled, Batched}
+use Rattle.chunk.specs.declared.chunk.ColumnChunk.{ColumnChunk}
+use Rattle.chunk.proofs.Tests.{levels_test}
+use Rattle.chunk.proofs.Writing.{size_few}
+
+-- what is known of a batch that is not refused
+pub record Passes (x : Context) (l : Ledger) (b : Batch) (i : Intake) : Type 0 where
+  pub begun : is_open l.phase ≡ true
+  pub waits : due x l.page ≡ false
+  pub fits : Admitted (layout x) b
+  pub room : levels l.page + b.count ≤ 1024
+  pub values : i.values ≡ needed (layout x) b
+
+pub passes : (x : Context) (room : ℕ) (l : Ledger) (b : Batch) (i : Intake) → tested (batch_tests x room l b) (Ok (intake_of (layout x) b)) ≡ Ok i → Passes x l b i
+passes x room l b i h =
+    let p = passed_from_ok (batch_tests x room l b) (Ok (intake_of (layout x) b)) i h in
+    let e : ◌≡◌ {A = Result Intake ChunkFault} (Ok (intake_of (layout x) b)) (Ok i) = ok_from_ok (batch_tests x room l b) (Ok (intake_of (layout x) b)) i h in
+    let z : intake_of (layout x) b ≡ i = cc in
+    record {
+      begun = not-false (is_open l.phase) p.0;
+      waits = p.1.0;
+      fits = admitted (layout x) b (passed_left (intake_tests (layout x) b) (levels_test l b) p.1.1.1);
+      room = ltb-false 1024 (levels l.page + b.count) (passed_right (intake_tests (layout x) b) (levels_test l b) p.1.1.1).0;
+      values = ap (λ k. k.values) (sym z);
+    }
+
+no_values : (w : ℕ) (vs : List (List ℕ)) → length vs ≡ 0 → length (plains w vs) ≡ 0
+no_values w [] h = refl
+no_values w (v ∷ vs) h = absurd (omega (arith, h))
+
+none_counted : (q : ℕ → Bool) (ls : List ℕ) → length ls ≡ 0 → count_by q ls ≡ 0
+none_counted q [] h = refl
+none_counted q (v ∷ ls) h = absurd (omega (arith, h))
+
+-- a page that is not due has room for the plain bytes of a batch
+pub light : (x : Context) (p : Page) → accepted x ≡ true → WellFormed (layout x) p → due x p ≡ false → length (plains (layout x).width p.values) ≤ 4095
+light x p a w h = by_levels (ltb 0 (levels p)) refl
+  where
+  few : length (plain_bytes x p) < x.settings.size_limit → length (plain_bytes x p) ≤ 4095
+  few k = omega (arith, k, size_few x a)
+  by_levels : (b : Bool) → ltb 0 (levels p) ≡ b → length (plain_bytes x p) ≤ 4095
+  by_levels true e =
+      let r : (leb x.settings.row_limit (rows p) || leb x.settings.size_limit (length (plain_bytes x p))) ≡ false = sym (ap (λ b. b && (leb x.settings.row_limit (rows p) || leb x.settings.size_limit (length (plain_bytes x p)))) e) ∙ h in
+      few (leb-false x.settings.size_limit (length (plain_bytes x p)) (or_parts (leb x.settings.row_limit (rows p)) (leb x.settings.size_limit (length (plain_bytes x p))) r).1)
+  by_levels false e =
+      let n : length p.defs ≡ 0 = omega (arith, ltb-false 0 (levels p) e) in
+      let v : length p.values ≡ 0 = w.counted ∙ none_counted _ p.defs n in
+      omega (arith, no_values (layout x).width p.values v)
+
+module _ {K L B S : Type 0} (x : Context) (m : StoreMeaning S) (w : SinkMeaning S) (o : Before) (l : Ledger) (b : Batch) (c : ColumnChunk K L B S) (st : Stands x m w o l c) where
+
+  pub batch_refused : (s : List ℕ) (r : Result BatchDone ChunkFault) (e : ChunkFault) → r ≡ Err e → tested (batch_tests x (length s) l b) (Ok (intake_of (layout x) b)) ≡ Err e → Batched x m w o l b c s r c s
+  batch_refused s r e h t = subst (λ q. Batched x m w o l b c s q c s) (sym h) (record {
+    answer = sym (tested_err (batch_tests x (length s) l b) (intake_of (layout x) b) e (Ok (settled x (w.takes c.sink) l b)) t);
+    left = record { stands = st; scratch = refl; untouched = (refl, refl) };
+    kept = (refl, refl);
+  })
+
+  -- with more on its open page the chunk stands to the ledger that has more there
+  pub more_stands : (p : Page) (page : OpenPage) → Opened x.kind (layout x) (join l.page p) page → Stands x m w o (adds l p) (record c { page = page })
+  more_stands p page h = record {
+    sound = st.sound;
+    offsets = st.offsets;
+    pages_behind = st.pages_behind;
+    offsets_behind = st.offsets_behind;
+    paired = st.paired;
+    base = st.base;
+    base_few = st.base_few;
+    column = st.column;
+    settings = st.settings;
+    phase = st.phase;
+    allowed = st.allowed;
+    page = h;
+    log = st.log;
+  }
+
+  pub batch_stood : (s : List ℕ) (i : Intake) (page : OpenPage) (r : BatchDone) (c' : ColumnChunk K L B S) (s' : List ℕ)
+      → tested (batch_tests x (length s) l b) (Ok (intake_of (layout x) b)) ≡ Ok i
+      → Settled x m w o (adds l (taken (layout x) b)) i.values (record c { page = page }) s r c' s' → Batched x m w o l b c s (Ok r) c' s'
+  batch_stood s i page r c' s' h f = record {
+    answer =
+        ap (λ q. Ok q)
+        (f.answer
+        ∙ ap (λ n. cond (due x (join l.page (taken (layout x) b))) (done n (written x (w.takes c.sink) (adds l (taken (layout x) b)))) (done n (Ok 0))) (passes x (length s) l b i h).values)
+        ∙ sym (tested_ok (batch_tests x (length s) l b) (intake_of (layout x) b) i (Ok (settled x (w.takes c.sink) l b)) h);
+    left = record { stands = f.left.stands; scratch = f.left.scratch; untouched = f.left.untouched };
+    kept = tt;
+  }

@@ -1,0 +1,6 @@
+pub mod Openings
+pub mod Tests
+pub mod Turning
+pub mod Ending
+pub mod Writing
+pub mod Batching

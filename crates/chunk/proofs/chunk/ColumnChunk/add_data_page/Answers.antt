@@ -1,0 +1,77 @@
+use Rattle.std.proofs.Common.{◌≡◌, ℕ, ◌+◌, ◌<◌, ◌≤◌, true, false, [], ◌∷◌, ◌++◌, length, take, drop, Ok, Err, sym, ap, ◌∙◌, subst, arith}
+use Rattle.std.proofs.lemmas.Bool.{true≢false}
+use Rattle.std.proofs.lemmas.Result.{err_from_is_err_and}
+use Rattle.figures.specs.Figures.{smallest, largest}
+use Rattle.sinks.specs.Sinks.{Grown}
+use Rattle.metrics.specs.Metrics.{kept, Measures}
+use Rattle.ledger.specs.Context.{Context, layout, bytes}
+use Rattle.ledger.specs.Ledger.{Ledger}
+use Rattle.ledger.specs.Pages.{levels, blank}
+use Rattle.ledger.specs.Answers.{write_tests}
+use Rattle.refusals.specs.Refusals.{tested}
+use Rattle.open_page.specs.Pages.{Allowed}
+use Rattle.open_page.specs.Opened.{Opened}
+use Rattle.chunk.specs.Stands.{Before, Stands, context_of}
+use Rattle.chunk.proofs.Openings.{layout_allowed}
+use Rattle.chunk.proofs.Turning.{wrote_nothing, wrote_refused, wrote_page, refused_as, may_write, front, logged_more}
+use Rattle.chunk.proofs.chunk.ColumnChunk.add_data_page.Goals as goal
+
+pub returns-then-level_count-eq0 : goal.returns-then-level_count-eq0
+returns-then-level_count-eq0 g c = λ o l s.
+    let x : Context = context_of g.K.Kind.meaning g.L.LevelCoder.coding g.B.BodyCoder.body c.args.self.now in
+    wrote_nothing x g.S.PageStore.meaning g.S.PageSink.meaning o l c.args.self.now s c.args.scratch.now
+    (sym (c.level_count.ensures.page x.kind (layout x) l.page s.page) ∙ c.if-level_count-eq0.true)
+
+pub returns-in_err-size : goal.returns-in_err-size
+returns-in_err-size g c = λ o l s. let e = sym (c.page_size.ensures o l s).0 ∙ c.in_err-size.was in cc
+
+pub returns-in_err-test_write : goal.returns-in_err-test_write
+returns-in_err-test_write g c = λ o l s.
+    let x : Context = context_of g.K.Kind.meaning g.L.LevelCoder.coding g.B.BodyCoder.body c.args.self.now in
+    let p = err_from_is_err_and c.from_residual-in_err-test_write.result c.from_residual-in_err-test_write.ensures.1 in
+    let n : c.in_ok-size.size ≡ length (bytes x l.page) = let e = sym c.in_ok-size.was ∙ (c.page_size.ensures o l s).0 in cc in
+    refused_as x g.S.PageStore.meaning g.S.PageSink.meaning o l c.args.self.now s c.args.scratch.now _ _ (p.1 ∙ ap Err p.2)
+    (λ z. c.if-level_count-eq0.false (c.level_count.ensures.page x.kind (layout x) l.page s.page ∙ z))
+    (ap (λ k. tested (write_tests (g.S.PageSink.meaning.takes c.args.self.now.sink) (length l.pages) k) (Ok tt)) (sym n) ∙ sym (c.test_write.ensures o l s) ∙ c.in_err-test_write.was)
+
+pub returns-in_err-size-2 : goal.returns-in_err-size-2
+returns-in_err-size-2 g c = λ o l s. let e = sym (c.build_page.ensures.page o l s (c.page_size.ensures o l s).1).0 ∙ c.in_err-size-2.was in cc
+
+pub returns-in_err-offset : goal.returns-in_err-offset
+returns-in_err-offset g c = λ o l s.
+    let x : Context = context_of g.K.Kind.meaning g.L.LevelCoder.coding g.B.BodyCoder.body c.args.self.now in
+    let w = g.S.PageSink.meaning in
+    let k : ℕ = length (bytes x l.page) in
+    let few = (c.page_size.ensures o l s).1 in
+    let b = c.build_page.ensures.page o l s few in
+    let n : c.in_ok-size.size ≡ k = let e = sym c.in_ok-size.was ∙ (c.page_size.ensures o l s).0 in cc in
+    let n2 : c.in_ok-size-2.size ≡ k = let e = sym c.in_ok-size-2.was ∙ b.0 in cc in
+    let h : tested (write_tests (w.takes c.args.self.now.sink) (length l.pages) k) (Ok tt) ≡ Ok tt =
+      ap (λ i. tested (write_tests (w.takes c.args.self.now.sink) (length l.pages) i) (Ok tt)) (sym n) ∙ sym (c.test_write.ensures o l s) ∙ c.in_ok-test_write.was in
+    let t = (may_write x g.S.PageStore.meaning w o l c.args.self.now s h).1 in
+    let fr : take c.in_ok-size-2.size c.build_page.new.scratch ≡ bytes x l.page = ap (take c.in_ok-size-2.size) b.1 ∙ front (bytes x l.page) c.args.scratch.now c.in_ok-size-2.size n2 in
+    absurd (true≢false (sym t ∙ ap (λ p. w.takes c.args.self.now.sink (length p)) (sym fr) ∙ c.in_err-offset.ensures.0))
+
+pub returns : goal.returns
+returns g c = λ o l s.
+    let x : Context = context_of g.K.Kind.meaning g.L.LevelCoder.coding g.B.BodyCoder.body c.args.self.now in
+    let m = g.S.PageStore.meaning in
+    let w = g.S.PageSink.meaning in
+    let k : ℕ = length (bytes x l.page) in
+    let few = (c.page_size.ensures o l s).1 in
+    let b = c.build_page.ensures.page o l s few in
+    let n : c.in_ok-size.size ≡ k = let e = sym c.in_ok-size.was ∙ (c.page_size.ensures o l s).0 in cc in
+    let n2 : c.in_ok-size-2.size ≡ k = let e = sym c.in_ok-size-2.was ∙ b.0 in cc in
+    let h : tested (write_tests (w.takes c.args.self.now.sink) (length l.pages) k) (Ok tt) ≡ Ok tt =
+      ap (λ i. tested (write_tests (w.takes c.args.self.now.sink) (length l.pages) i) (Ok tt)) (sym n) ∙ sym (c.test_write.ensures o l s) ∙ c.in_ok-test_write.was in
+    let t = (may_write x m w o l c.args.self.now s h).0 in
+    let fr : take c.in_ok-size-2.size c.build_page.new.scratch ≡ bytes x l.page = ap (take c.in_ok-size-2.size) b.1 ∙ front (bytes x l.page) c.args.scratch.now c.in_ok-size-2.size n2 in
+    let logged = c.add_data_page.ensures x.levels x.body x.column s.offsets l.pages l.page s.log
+      (c.metrics.ensures x.kind (layout x) l.page s.page) (c.min.ensures x.kind (layout x) l.page s.page) (c.max.ensures x.kind (layout x) l.page s.page)
+      s.page.well n2 (omega (arith, n2, few)) in
+    wrote_page x m w o l c.args.self.now s c.args.scratch.now c.build_page.new.scratch c.write_out.new.sink c.add_data_page.new.self c.new-self.result c.in_ok-offset.offset
+    (λ z. c.if-level_count-eq0.false (c.level_count.ensures.page x.kind (layout x) l.page s.page ∙ z)) h
+    (subst (λ p. Grown m w c.args.self.now.sink p c.in_ok-offset.offset c.write_out.new.sink) fr (c.in_ok-offset.ensures.1 s.sound))
+    (logged_more x s.offsets l.pages c.in_ok-offset.offset l.page c.args.self.now.log c.add_data_page.new.self c.add_data_page.result t logged)
+    (subst (λ y. Opened x.kind y blank c.new-self.result) c.layout.ensures (c.new-self.ensures (subst Allowed (sym c.layout.ensures) (layout_allowed x.column x.settings))))
+    b.1

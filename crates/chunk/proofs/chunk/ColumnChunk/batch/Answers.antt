@@ -1,0 +1,33 @@
+use Rattle.std.proofs.Common.{◌≡◌, ◌+◌, ◌≤◌, true, length, Ok, Err, sym, ap, ◌∙◌, subst, refl}
+use Rattle.std.proofs.lemmas.Result.{err_from_is_err_and}
+use Rattle.refusals.specs.Refusals.{tested}
+use Rattle.ledger.specs.Context.{Context, layout, accepted}
+use Rattle.ledger.specs.Batches.{Batch, taken, needed, Admitted}
+use Rattle.ledger.specs.Pages.{Page, join, plains, levels}
+use Rattle.ledger.specs.Answers.{batch_tests}
+use Rattle.intake.specs.Admitting.{batch_of, intake_of}
+use Rattle.open_page.specs.Opened.{Opened}
+use Rattle.chunk.specs.Stands.{context_of}
+use Rattle.chunk.proofs.Ending.{open_accepted}
+use Rattle.chunk.proofs.Batching.{Passes, passes, light, batch_refused, more_stands, batch_stood}
+use Rattle.chunk.proofs.chunk.ColumnChunk.batch.Goals as goal
+
+pub returns-in_err-intake : goal.returns-in_err-intake
+returns-in_err-intake g c = λ o l s.
+    let x : Context = context_of g.K.Kind.meaning g.L.LevelCoder.coding g.B.BodyCoder.body c.args.self.now in
+    let b : Batch = batch_of g.V.ValueOf.bytes c.args.batch in
+    let p = err_from_is_err_and c.from_residual.result c.from_residual.ensures.1 in
+    batch_refused x g.S.PageStore.meaning g.S.PageSink.meaning o l b c.args.self.now s c.args.scratch.now c.from_residual.result c.in_err-intake.field-0.0 (p.1 ∙ ap Err p.2)
+    (sym (c.test_batch.ensures.tests o l s) ∙ c.in_err-intake.was)
+
+pub returns : goal.returns
+returns g c = λ o l s.
+    let x : Context = context_of g.K.Kind.meaning g.L.LevelCoder.coding g.B.BodyCoder.body c.args.self.now in
+    let b : Batch = batch_of g.V.ValueOf.bytes c.args.batch in
+    let t : tested (batch_tests x (length c.args.scratch.now) l b) (Ok (intake_of (layout x) b)) ≡ Ok c.in_ok-intake.intake = sym (c.test_batch.ensures.tests o l s) ∙ c.in_ok-intake.was in
+    let k : Passes x l b c.in_ok-intake.intake = passes x (length c.args.scratch.now) l b c.in_ok-intake.intake t in
+    let a : accepted x ≡ true = open_accepted l.phase (accepted x) k.begun s.allowed in
+    let e = c.layout.ensures in
+    let w : Opened x.kind (layout x) (join l.page (taken (layout x) b)) c.write_mini_batch.new.self = ? in
+    batch_stood x g.S.PageStore.meaning g.S.PageSink.meaning o l b c.args.self.now s c.args.scratch.now c.in_ok-intake.intake c.write_mini_batch.new.self c.settle.result c.settle.new.self c.settle.new.scratch t
+    (c.settle.ensures o (Rattle.ledger.specs.Ledger.adds l (taken (layout x) b)) (more_stands x g.S.PageStore.meaning g.S.PageSink.meaning o l b c.args.self.now s (taken (layout x) b) c.write_mini_batch.new.self w))
