@@ -2,3 +2,4 @@ pub mod Joining
 pub mod Pushing
 pub mod Filling
 pub mod Fitting
+pub mod Accepted

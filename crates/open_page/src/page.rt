@@ -1,21 +1,17 @@
-ghost use Rattle.std.specs.Prelude.{◌≡◌, ℕ, ◌+◌, ◌<◌, ◌≤◌, List, [], ◌∷◌, length, map, Some, None};
-ghost use Rattle.std.specs.List.{AllByRecursion};
+ghost use Rattle.std.specs.Prelude.{◌≡◌, ℕ, ◌+◌, ◌<◌, ◌≤◌, [], ◌∷◌, length, map, None};
 ghost use Rattle.kinds.specs.Meaning.{Meaning};
 ghost use Rattle.kinds.specs.Plain.{Laid};
 ghost use Rattle.figures.specs.Figures.{smallest, largest};
-ghost use Rattle.level_coder.specs.Coding.{Coding};
 ghost use Rattle.pages.specs.Layout.{page_bytes};
 ghost use Rattle.pages.specs.declared.layout.Layout.{Layout as PageLayout};
+ghost use Rattle.level_data.specs.Levels.{levels_of};
 ghost use Rattle.ledger.specs.Pages.{Page, blank, join, levels, plains};
-ghost use Rattle.ledger.specs.Context.{Context, due};
-ghost use Rattle.ledger.specs.Context.{layout as layout_in};
+ghost use Rattle.ledger.specs.Context.{Context, due, layout as layout_in};
+ghost use Rattle.ledger.specs.Batches.{taken, needed as needed_of, Admitted};
+ghost use Rattle.intake.specs.Admitting.{batch_of};
 ghost use Rattle.metrics.specs.Metrics.{kept, Measures};
 ghost use Rattle.open_page.specs.Pages.{Allowed, Joinable};
-ghost use Rattle.open_page.specs.Opened.{Holds, Opened, LevelsAdded, ValuesAdded, slots, Sized};
-ghost use Rattle.level_data.specs.Levels.{levels_of};
-ghost use Rattle.ledger.specs.Batches.{taken, Admitted};
-ghost use Rattle.ledger.specs.Batches.{needed as needed_of};
-ghost use Rattle.intake.specs.Admitting.{batch_of};
+ghost use Rattle.open_page.specs.Opened.{slots, Holds, Opened, LevelsAdded, ValuesAdded, Sized};
 
 use crate::levels::level_at;
 use crate::values::{first, put_values, take_max, take_min};
@@ -41,7 +37,7 @@ pub struct OpenPage {
     max: Option<Buffer<128>>,
 }
 
-// What is held does not tell the page, so that each contract speaks of every page that is held so.
+// What is held does not tell the page, so that each contract speaks of every page that may be held so.
 impl OpenPage {
     // An empty page.
     pub fn new<K: Kind>(layout: Layout) -> OpenPage

@@ -1,7 +1,6 @@
 ghost use Rattle.std.specs.Prelude.{◌≡◌, true, ◌+◌, ◌≤◌, ◌++◌, length, map, take, Some};
 ghost use Rattle.std.specs.List.{AllByRecursion};
-ghost use Rattle.kinds.specs.Plain.{sized};
-ghost use Rattle.kinds.specs.Plain.{plain as plain_of};
+ghost use Rattle.kinds.specs.Plain.{sized, plain as plain_of};
 ghost use Rattle.figures.specs.Figures.{lesser, higher};
 ghost use Rattle.metrics.specs.Metrics.{kept};
 ghost use Rattle.ledger.specs.Pages.{plains};
