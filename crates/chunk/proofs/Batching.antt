@@ -1,28 +1,25 @@
 -- What a batch leaves, from what writing it into the open page and settling the page leave.
-use Rattle.std.proofs.Common.{◌≡◌, ℕ, zero, suc, ◌+◌, ◌<◌, ◌≤◌, Bool, true, false, cond, not, ◌&&◌, ◌||◌, eqb, ltb, leb, ◌⊎◌, List, [], ◌∷◌, ◌++◌, length, Ok, Err, Result, sym, refl, ap, ◌∙◌, subst, ⊎_elim, count_by, arith}
-use Rattle.std.proofs.lemmas.Bool.{ltb-false, leb-false, not-false, and_parts, or_parts, cases_Bool, true≢false}
+use Rattle.std.proofs.Common.{◌≡◌, ℕ, ◌+◌, ◌≤◌, true, false, cond, List, length, Ok, Err, Result, sym, refl, ap, ◌∙◌, subst}
+use Rattle.std.proofs.lemmas.Bool.{ltb-false, not-false}
 use Rattle.sinks.specs.Stores.{StoreMeaning}
 use Rattle.sinks.specs.Sinks.{SinkMeaning}
-use Rattle.pages.specs.declared.layout.Layout.{Layout}
-use Rattle.refusals.specs.Refusals.{Test, tested}
+use Rattle.refusals.specs.Refusals.{tested}
 use Rattle.refusals.specs.declared.fault.ChunkFault.{ChunkFault}
 use Rattle.refusals.specs.declared.done.BatchDone.{BatchDone}
-use Rattle.ledger.specs.Pages.{Page, join, levels, rows, plains}
+use Rattle.ledger.specs.Pages.{Page, join, levels}
 use Rattle.ledger.specs.Batches.{Batch, needed, taken, intake_tests, Admitted}
-use Rattle.ledger.specs.Context.{Context, layout, plain_bytes, due, accepted}
+use Rattle.ledger.specs.Context.{Context, layout, due}
 use Rattle.ledger.specs.Ledger.{Ledger, is_open, adds}
 use Rattle.ledger.specs.Answers.{written, done, batch_tests, settled}
 use Rattle.intake.specs.Admitting.{intake_of}
 use Rattle.intake.specs.declared.intake.Intake.{Intake}
-use Rattle.intake.proofs.Tested.{Passed, tested_err, tested_ok, passed_from_ok, ok_from_ok, passed_left, passed_right}
+use Rattle.intake.proofs.Tested.{tested_err, tested_ok, passed_from_ok, ok_from_ok, passed_left, passed_right}
 use Rattle.intake.proofs.Admits.{admitted}
-use Rattle.open_page.specs.Pages.{WellFormed}
 use Rattle.open_page.specs.Opened.{Opened}
 use Rattle.open_page.specs.declared.page.OpenPage.{OpenPage}
 use Rattle.chunk.specs.Stands.{Before, Stands, Settled, Batched}
 use Rattle.chunk.specs.declared.chunk.ColumnChunk.{ColumnChunk}
 use Rattle.chunk.proofs.Tests.{levels_test}
-use Rattle.chunk.proofs.Writing.{size_few}
 
 -- what is known of a batch that is not refused
 pub record Passes (x : Context) (l : Ledger) (b : Batch) (i : Intake) : Type 0 where
@@ -44,29 +41,6 @@ passes x room l b i h =
       room = ltb-false 1024 (levels l.page + b.count) (passed_right (intake_tests (layout x) b) (levels_test l b) p.1.1.1).0;
       values = ap (λ k. k.values) (sym z);
     }
-
-no_values : (w : ℕ) (vs : List (List ℕ)) → length vs ≡ 0 → length (plains w vs) ≡ 0
-no_values w [] h = refl
-no_values w (v ∷ vs) h = absurd (omega (arith, h))
-
-none_counted : (q : ℕ → Bool) (ls : List ℕ) → length ls ≡ 0 → count_by q ls ≡ 0
-none_counted q [] h = refl
-none_counted q (v ∷ ls) h = absurd (omega (arith, h))
-
--- a page that is not due has room for the plain bytes of a batch
-pub light : (x : Context) (p : Page) → accepted x ≡ true → WellFormed (layout x) p → due x p ≡ false → length (plains (layout x).width p.values) ≤ 4095
-light x p a w h = by_levels (ltb 0 (levels p)) refl
-  where
-  few : length (plain_bytes x p) < x.settings.size_limit → length (plain_bytes x p) ≤ 4095
-  few k = omega (arith, k, size_few x a)
-  by_levels : (b : Bool) → ltb 0 (levels p) ≡ b → length (plain_bytes x p) ≤ 4095
-  by_levels true e =
-      let r : (leb x.settings.row_limit (rows p) || leb x.settings.size_limit (length (plain_bytes x p))) ≡ false = sym (ap (λ b. b && (leb x.settings.row_limit (rows p) || leb x.settings.size_limit (length (plain_bytes x p)))) e) ∙ h in
-      few (leb-false x.settings.size_limit (length (plain_bytes x p)) (or_parts (leb x.settings.row_limit (rows p)) (leb x.settings.size_limit (length (plain_bytes x p))) r).1)
-  by_levels false e =
-      let n : length p.defs ≡ 0 = omega (arith, ltb-false 0 (levels p) e) in
-      let v : length p.values ≡ 0 = w.counted ∙ none_counted _ p.defs n in
-      omega (arith, no_values (layout x).width p.values v)
 
 module _ {K L B S : Type 0} (x : Context) (m : StoreMeaning S) (w : SinkMeaning S) (o : Before) (l : Ledger) (b : Batch) (c : ColumnChunk K L B S) (st : Stands x m w o l c) where
 
@@ -93,6 +67,7 @@ module _ {K L B S : Type 0} (x : Context) (m : StoreMeaning S) (w : SinkMeaning 
     allowed = st.allowed;
     page = h;
     log = st.log;
+    written = st.written;
   }
 
   pub batch_stood : (s : List ℕ) (i : Intake) (page : OpenPage) (r : BatchDone) (c' : ColumnChunk K L B S) (s' : List ℕ)

@@ -1,22 +1,17 @@
 -- What the three calls that change a chunk leave, from what writing its open page leaves.
-use Rattle.std.proofs.Common.{◌≡◌, ℕ, zero, suc, ◌+◌, ◌<◌, ◌≤◌, Bool, true, false, cond, not, ◌&&◌, ◌||◌, eqb, ltb, leb, ◌⊎◌, List, [], ◌∷◌, ◌++◌, length, Ok, Err, Result, sym, refl, ap, ◌∙◌, subst, ⊎_elim, arith}
-use Rattle.std.proofs.lemmas.Bool.{cond-true, cond-false, ltb-false, not-false, leb-true, leb-false, and_parts, cases_Bool, true≢false}
+use Rattle.std.proofs.Common.{◌≡◌, ℕ, zero, suc, Bool, true, false, List, length, Ok, Err, Result, sym, refl, ap, ◌∙◌, subst}
+use Rattle.std.proofs.lemmas.Bool.{cond-true, cond-false, not-false, true≢false}
 use Rattle.sinks.specs.Stores.{StoreMeaning}
 use Rattle.sinks.specs.Sinks.{SinkMeaning}
-use Rattle.refusals.specs.Refusals.{Test, tested}
+use Rattle.refusals.specs.Refusals.{tested}
 use Rattle.refusals.specs.declared.fault.ChunkFault.{ChunkFault}
-use Rattle.refusals.specs.declared.done.BatchDone.{BatchDone}
-use Rattle.ledger.specs.Pages.{Page, join, levels}
-use Rattle.ledger.specs.Batches.{Batch, taken}
-use Rattle.ledger.specs.Context.{Context, layout, bytes, due, accepted}
-use Rattle.ledger.specs.Ledger.{Ledger, is_open, adds, turned, shut, fed_close}
-use Rattle.ledger.specs.Answers.{end_tests, written, done, end_answer, batch_tests, settled}
+use Rattle.ledger.specs.Context.{Context, due, accepted}
+use Rattle.ledger.specs.Ledger.{Ledger, is_open, turned, shut}
+use Rattle.ledger.specs.Answers.{end_tests, written, done, end_answer}
 use Rattle.ledger.specs.declared.phase.Phase.{Phase}
 use Rattle.ledger.specs.declared.phase.Phase.TheVariants.{Open, Closed, Refused}
-use Rattle.intake.proofs.Tested.{Passed, tested_err, tested_ok, tested_passed, passed_from_ok}
-use Rattle.open_page.specs.Opened.{Opened}
-use Rattle.open_page.specs.declared.page.OpenPage.{OpenPage}
-use Rattle.chunk.specs.Stands.{Before, Stands, Left, Kept, Wrote, Settled, Batched, CutBy, ClosedBy, pages_of, cut_by, is_accepted, scratched, Untouched}
+use Rattle.intake.proofs.Tested.{tested_err, tested_ok, passed_from_ok}
+use Rattle.chunk.specs.Stands.{Before, Stands, Wrote, Settled, CutBy, ClosedBy, is_accepted}
 use Rattle.chunk.specs.declared.chunk.ColumnChunk.{ColumnChunk}
 
 -- an open chunk's opening was accepted
@@ -74,6 +69,7 @@ module _ {K L B S : Type 0} (x : Context) (m : StoreMeaning S) (w : SinkMeaning 
     allowed = sym (open_accepted (turned n l).phase (accepted x) (ap is_open (turned_phase n l) ∙ h) st.allowed);
     page = st.page;
     log = st.log;
+    written = st.written;
   }
 
   pub closed_after : (s : List ℕ) (n : ℕ) (c' : ColumnChunk K L B S) (s' : List ℕ) → CutBy x m w o l c s (Ok n) c' s' → ClosedBy x m w o l c s (Ok n) (record c' { phase = Closed }) s'

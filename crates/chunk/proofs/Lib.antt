@@ -4,3 +4,5 @@ pub mod Turning
 pub mod Ending
 pub mod Writing
 pub mod Batching
+pub mod Places
+pub mod Lists

@@ -1,19 +1,17 @@
 -- What a chunk is once it is opened.
-use Rattle.std.proofs.Common.{◌≡◌, ℕ, ◌≤◌, ◌<◌, ◌^◌, leb, Bool, true, false, cond, not, ◌&&◌, List, [], ◌++◌, map, length, Ok, Err, Result, sym, refl, ap, ◌∙◌, append-nil, ℤ, pos, negsuc, arith}
-use Rattle.std.proofs.lemmas.Bool.{leb-true, cases_Bool}
+use Rattle.std.proofs.Common.{◌≡◌, Bool, true, false, cond, not, ◌&&◌, Ok, Err, Result, refl}
 use Rattle.kinds.specs.Meaning.{Meaning}
 use Rattle.level_coder.specs.Coding.{Coding}
 use Rattle.body_coder.specs.Body.{Body}
 use Rattle.refusals.specs.declared.fault.ChunkFault.TheVariants.{Column as ColumnFault, Settings as SettingsFault}
-use Rattle.columns.specs.Columns.{checked, column_fits, settings_fit, level_of, layout_of}
+use Rattle.columns.specs.Columns.{checked, column_fits, settings_fit}
 use Rattle.columns.specs.declared.column.Column.{Column}
 use Rattle.columns.specs.declared.settings.Settings.{Settings}
 use Rattle.refusals.specs.declared.fault.ChunkFault.{ChunkFault}
-use Rattle.ledger.specs.Context.{Context, accepted, layout}
+use Rattle.ledger.specs.Context.{Context, accepted}
 use Rattle.ledger.specs.declared.phase.Phase.{Phase}
 use Rattle.ledger.specs.declared.phase.Phase.TheVariants.{Open, Refused}
 use Rattle.page_log.specs.Logs.{context}
-use Rattle.open_page.specs.Pages.{Allowed}
 use Rattle.chunk.specs.Stands.{begins, is_accepted}
 
 abbrev pub phase_by : Result Unit ChunkFault → Phase
@@ -34,14 +32,3 @@ accepted_begins x = by_bool (accepted x)
   by_bool : (b : Bool) → is_accepted (cond b Open Refused) ≡ b
   by_bool true = refl
   by_bool false = refl
-
-few_if : (n k : ℕ) (b : Bool) → leb n k ≡ b → cond b n 0 ≤ k
-few_if n k true h = leb-true n k h
-few_if n k false h = omega arith
-
-level_few : (z : ℤ) → level_of z ≤ 15
-level_few (pos n) = few_if n 15 (leb n 15) refl
-level_few (negsuc n) = omega arith
-
-pub layout_allowed : (col : Column) (set : Settings) → Allowed (layout_of col set)
-layout_allowed col set = record { repetition = level_few col.max_rep_level; definition = level_few col.max_def_level; width = few_if col.width 128 (leb col.width 128) refl }

@@ -1,19 +1,19 @@
 -- A chunk whose open page was written stands to the ledger that was turned.
-use Rattle.std.proofs.Common.{◌≡◌, ℕ, zero, suc, ◌+◌, ◌<◌, ◌≤◌, Bool, true, false, cond, not, eqb, ltb, List, [], ◌∷◌, ◌++◌, map, length, take, drop, Some, None, Option, Ok, Err, Result, sym, refl, ap, ◌∙◌, subst, append_assoc, arith}
+use Rattle.std.proofs.Common.{◌≡◌, ℕ, ◌<◌, true, eqb, List, [], ◌∷◌, ◌++◌, map, length, take, drop, Some, None, Option, Ok, Err, Result, sym, refl, ap, ◌∙◌, subst, append_assoc, arith}
 use Rattle.std.proofs.lemmas.Bool.{cond-true, cond-false, eq-eqb, ne_eqb, leb-false, not-false}
 use Rattle.std.proofs.Math.Seq.{take-append_seam}
 use Rattle.sinks.specs.Stores.{StoreMeaning}
 use Rattle.sinks.specs.Sinks.{SinkMeaning, Grown}
-use Rattle.refusals.specs.Refusals.{Test, refuses, tested}
+use Rattle.refusals.specs.Refusals.{Test, tested}
 use Rattle.refusals.specs.declared.fault.ChunkFault.{ChunkFault}
 use Rattle.ledger.specs.Pages.{Page, blank, levels}
-use Rattle.ledger.specs.Context.{Context, layout, bytes, due}
-use Rattle.ledger.specs.Ledger.{Ledger, turned}
-use Rattle.ledger.specs.Answers.{write_tests, written}
+use Rattle.ledger.specs.Context.{Context, layout, bytes, accepted}
+use Rattle.ledger.specs.Ledger.{Ledger}
+use Rattle.ledger.specs.Answers.{write_tests}
 use Rattle.intake.proofs.Tested.{tested_err, tested_ok, passed_from_ok}
 use Rattle.open_page.specs.Opened.{Opened}
 use Rattle.page_log.specs.Logs.{Logged, Logs}
-use Rattle.chunk.specs.Stands.{Before, Stands, Left, Wrote}
+use Rattle.chunk.specs.Stands.{Before, Stands, Wrote}
 use Rattle.open_page.specs.declared.page.OpenPage.{OpenPage}
 use Rattle.page_log.specs.declared.log.PageLog.{PageLog}
 use Rattle.chunk.specs.declared.chunk.ColumnChunk.{ColumnChunk}
@@ -42,11 +42,11 @@ module _ {K L B S : Type 0} (x : Context) (m : StoreMeaning S) (w : SinkMeaning 
   }
 
   pub wrote_page : (scr scr' : List ℕ) (sink : S) (log : PageLog) (page : OpenPage) (off : ℕ)
-      → (levels l.page ≡ 0 → ⊥) → tested {A = Unit {0}} tests (Ok tt) ≡ Ok tt → Grown m w c.sink (bytes x l.page) off sink
+      → accepted x ≡ true → (levels l.page ≡ 0 → ⊥) → tested {A = Unit {0}} tests (Ok tt) ≡ Ok tt → Grown m w c.sink (bytes x l.page) off sink
       → Logged x (s.offsets ++ (off ∷ [])) (l.pages ++ (l.page ∷ [])) log → Opened x.kind (layout x) blank page
       → scr' ≡ bytes x l.page ++ drop (length (bytes x l.page)) scr
       → Wrote x m w o l c scr (Ok 1) (record c { sink = sink; page = page; log = log }) scr'
-  wrote_page scr scr' sink log page off z h grown logged fresh after = record {
+  wrote_page scr scr' sink log page off ok z h grown logged fresh after = record {
     answer = sym (cond-false (eqb (levels l.page) 0) (Ok 0) (tested tests (Ok 1)) (ne_eqb (levels l.page) 0 z) ∙ tested_ok tests tt tt (Ok 1) h);
     left = record {
       stands = record {
@@ -61,6 +61,7 @@ module _ {K L B S : Type 0} (x : Context) (m : StoreMeaning S) (w : SinkMeaning 
         settings = s.settings;
         phase = s.phase;
         allowed = s.allowed;
+        written = λ _. ok;
         page = fresh;
         log = logged;
       };

@@ -1,5 +1,5 @@
 -- How a chunk stands to its ledger, and what each call that can change it leaves, from docs/RULES.md.
-use Rattle.std.specs.Prelude.{◌≡◌, ℕ, zero, suc, ◌+◌, ◌^◌, ◌<◌, Bool, true, false, cond, not, List, [], ◌∷◌, ◌++◌, map, length, drop, Ok, Err, Result, slice_index_or}
+use Rattle.std.specs.Prelude.{◌≡◌, ℕ, zero, suc, ◌^◌, ◌<◌, Bool, true, false, cond, List, ◌++◌, map, length, drop, Ok, Err, Result}
 use Rattle.kinds.specs.Meaning.{Meaning}
 use Rattle.level_coder.specs.Coding.{Coding}
 use Rattle.body_coder.specs.Body.{Body}
@@ -50,6 +50,7 @@ pub record Stands {K L B S : Type 0} (x : Context) (m : StoreMeaning S) (w : Sin
   pub settings : c.settings ≡ x.settings
   pub phase : c.phase ≡ l.phase
   pub allowed : is_accepted l.phase ≡ accepted x
+  pub written : 0 < length l.pages → accepted x ≡ true
   pub page : Opened x.kind (layout x) l.page c.page
   pub log : Logged x offsets l.pages c.log
 

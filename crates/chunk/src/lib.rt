@@ -6,6 +6,7 @@
 mod calls;
 mod chunk;
 
+mod reads;
 mod writes;
 
 pub use chunk::ColumnChunk;

@@ -1,19 +1,18 @@
-use Rattle.std.proofs.Common.{◌≡◌, ℕ, ◌+◌, ◌<◌, ◌≤◌, true, false, [], ◌∷◌, ◌++◌, length, take, drop, Ok, Err, sym, ap, ◌∙◌, subst, arith}
+use Rattle.std.proofs.Common.{◌≡◌, ℕ, length, take, Ok, Err, sym, ap, ◌∙◌, subst, arith}
 use Rattle.std.proofs.lemmas.Bool.{true≢false}
 use Rattle.std.proofs.lemmas.Result.{err_from_is_err_and}
-use Rattle.figures.specs.Figures.{smallest, largest}
 use Rattle.sinks.specs.Sinks.{Grown}
-use Rattle.metrics.specs.Metrics.{kept, Measures}
-use Rattle.ledger.specs.Context.{Context, layout, bytes}
-use Rattle.ledger.specs.Ledger.{Ledger}
-use Rattle.ledger.specs.Pages.{levels, blank}
+use Rattle.ledger.specs.Context.{Context, layout, bytes, accepted}
+use Rattle.ledger.specs.Ledger.{is_open}
+use Rattle.ledger.specs.Pages.{blank}
 use Rattle.ledger.specs.Answers.{write_tests}
 use Rattle.refusals.specs.Refusals.{tested}
 use Rattle.open_page.specs.Pages.{Allowed}
 use Rattle.open_page.specs.Opened.{Opened}
-use Rattle.chunk.specs.Stands.{Before, Stands, context_of}
-use Rattle.chunk.proofs.Openings.{layout_allowed}
-use Rattle.chunk.proofs.Turning.{wrote_nothing, wrote_refused, wrote_page, refused_as, may_write, front, logged_more}
+use Rattle.chunk.specs.Stands.{context_of}
+use Rattle.open_page.proofs.Accepted.{layout_allowed}
+use Rattle.chunk.proofs.Ending.{open_accepted}
+use Rattle.chunk.proofs.Turning.{wrote_nothing, wrote_page, refused_as, may_write, front, logged_more}
 use Rattle.chunk.proofs.chunk.ColumnChunk.add_data_page.Goals as goal
 
 pub returns-then-level_count-eq0 : goal.returns-then-level_count-eq0
@@ -70,6 +69,7 @@ returns g c = λ o l s.
       (c.metrics.ensures x.kind (layout x) l.page s.page) (c.min.ensures x.kind (layout x) l.page s.page) (c.max.ensures x.kind (layout x) l.page s.page)
       s.page.well n2 (omega (arith, n2, few)) in
     wrote_page x m w o l c.args.self.now s c.args.scratch.now c.build_page.new.scratch c.write_out.new.sink c.add_data_page.new.self c.new-self.result c.in_ok-offset.offset
+    (open_accepted l.phase (accepted x) (ap is_open (sym s.phase) ∙ c.requires.phase) s.allowed)
     (λ z. c.if-level_count-eq0.false (c.level_count.ensures.page x.kind (layout x) l.page s.page ∙ z)) h
     (subst (λ p. Grown m w c.args.self.now.sink p c.in_ok-offset.offset c.write_out.new.sink) fr (c.in_ok-offset.ensures.1 s.sound))
     (logged_more x s.offsets l.pages c.in_ok-offset.offset l.page c.args.self.now.log c.add_data_page.new.self c.add_data_page.result t logged)

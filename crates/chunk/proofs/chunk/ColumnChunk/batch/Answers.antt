@@ -1,15 +1,16 @@
-use Rattle.std.proofs.Common.{◌≡◌, ◌+◌, ◌≤◌, true, length, Ok, Err, sym, ap, ◌∙◌, subst, refl}
+use Rattle.std.proofs.Common.{◌≡◌, ◌≤◌, true, length, Ok, Err, sym, ap, ◌∙◌, subst}
 use Rattle.std.proofs.lemmas.Result.{err_from_is_err_and}
 use Rattle.refusals.specs.Refusals.{tested}
 use Rattle.ledger.specs.Context.{Context, layout, accepted}
 use Rattle.ledger.specs.Batches.{Batch, taken, needed, Admitted}
-use Rattle.ledger.specs.Pages.{Page, join, plains, levels}
+use Rattle.ledger.specs.Pages.{join, plains}
 use Rattle.ledger.specs.Answers.{batch_tests}
 use Rattle.intake.specs.Admitting.{batch_of, intake_of}
 use Rattle.open_page.specs.Opened.{Opened}
 use Rattle.chunk.specs.Stands.{context_of}
 use Rattle.chunk.proofs.Ending.{open_accepted}
-use Rattle.chunk.proofs.Batching.{Passes, passes, light, batch_refused, more_stands, batch_stood}
+use Rattle.open_page.proofs.Accepted.{not_due_light}
+use Rattle.chunk.proofs.Batching.{Passes, passes, batch_refused, more_stands, batch_stood}
 use Rattle.chunk.proofs.chunk.ColumnChunk.batch.Goals as goal
 
 pub returns-in_err-intake : goal.returns-in_err-intake
@@ -32,6 +33,6 @@ returns g c = λ o l s.
       subst (λ y. Opened x.kind y (join l.page (taken y b)) c.write_mini_batch.new.self) e
       (c.write_mini_batch.ensures l.page (subst (λ y. Opened x.kind y l.page c.args.self.now.page) (sym e) s.page)
       (subst (λ y. Admitted y b) (sym e) k.fits) (k.values ∙ ap (λ y. needed y b) (sym e)) k.room
-      (subst (λ y. length (plains y.width l.page.values) ≤ 4095) (sym e) (light x l.page a s.page.well k.waits))) in
+      (subst (λ y. length (plains y.width l.page.values) ≤ 4095) (sym e) (not_due_light x a l.page s.page.well k.waits))) in
     batch_stood x g.S.PageStore.meaning g.S.PageSink.meaning o l b c.args.self.now s c.args.scratch.now c.in_ok-intake.intake c.write_mini_batch.new.self c.settle.result c.settle.new.self c.settle.new.scratch t
     (c.settle.ensures o (Rattle.ledger.specs.Ledger.adds l (taken (layout x) b)) (more_stands x g.S.PageStore.meaning g.S.PageSink.meaning o l b c.args.self.now s (taken (layout x) b) c.write_mini_batch.new.self w))

@@ -1,7 +1,7 @@
-use Rattle.std.proofs.Common.{◌≡◌, Ok, Err, sym, ap, ◌∙◌, subst}
+use Rattle.std.proofs.Common.{Err, ap, ◌∙◌}
 use Rattle.std.proofs.lemmas.Result.{err_from_is_err_and}
 use Rattle.ledger.specs.Context.{Context}
-use Rattle.chunk.specs.Stands.{context_of, CutBy}
+use Rattle.chunk.specs.Stands.{context_of}
 use Rattle.chunk.proofs.Ending.{close_refused, closed_after}
 use Rattle.chunk.proofs.chunk.ColumnChunk.close.Goals as goal
 

@@ -1,10 +1,11 @@
-use Rattle.std.proofs.Common.{[], sym, refl, subst, append-nil}
+use Rattle.std.proofs.Common.{[], sym, refl, subst, append-nil, arith}
 use Rattle.ledger.specs.Context.{Context}
 use Rattle.ledger.specs.Pages.{blank}
 use Rattle.open_page.specs.Pages.{Allowed}
 use Rattle.open_page.specs.Opened.{Opened}
 use Rattle.page_log.specs.Logs.{context}
-use Rattle.chunk.proofs.Openings.{accepted_begins, layout_allowed}
+use Rattle.chunk.proofs.Openings.{accepted_begins}
+use Rattle.open_page.proofs.Accepted.{layout_allowed}
 use Rattle.chunk.proofs.chunk.ColumnChunk.open.Goals as goal
 
 pub returns-clause-stands : goal.returns-clause-stands
@@ -23,6 +24,7 @@ returns-clause-stands g c = λ sound.
       settings = refl;
       phase = c.opening.ensures;
       allowed = accepted_begins x;
+      written = λ h. absurd (omega (arith, h));
       page = subst (λ y. Opened x.kind y blank c.new.result) c.layout-layout.ensures (c.new.ensures (subst Allowed (sym c.layout-layout.ensures) (layout_allowed c.args.column c.args.settings)));
       log = c.new-2.ensures x c.layout-layout.ensures;
     }

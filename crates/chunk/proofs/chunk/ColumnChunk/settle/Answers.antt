@@ -1,4 +1,4 @@
-use Rattle.std.proofs.Common.{◌≡◌, Ok, Err, sym, ap, ◌∙◌, subst}
+use Rattle.std.proofs.Common.{sym, ◌∙◌, subst}
 use Rattle.ledger.specs.Context.{Context}
 use Rattle.chunk.specs.Stands.{context_of, Settled}
 use Rattle.chunk.proofs.Ending.{settled_not_due, settled_wrote}

@@ -1,12 +1,11 @@
-use Rattle.std.proofs.Common.{◌≡◌, ◌+◌, Ok, Err, true, false, not, sym, ap, ◌∙◌, arith}
+use Rattle.std.proofs.Common.{◌≡◌, Err, true, false, sym, ap, ◌∙◌, arith}
 use Rattle.std.proofs.lemmas.Result.{err_from_is_err_and}
-use Rattle.std.proofs.lemmas.Bool.{not-false}
 use Rattle.ledger.specs.Context.{Context, layout, due}
 use Rattle.ledger.specs.Pages.{levels}
-use Rattle.ledger.specs.Ledger.{Ledger, is_open}
+use Rattle.ledger.specs.Ledger.{is_open}
 use Rattle.ledger.specs.Batches.{Batch}
 use Rattle.intake.specs.Admitting.{batch_of, admission}
-use Rattle.chunk.specs.Stands.{Before, Stands, context_of}
+use Rattle.chunk.specs.Stands.{context_of}
 use Rattle.chunk.proofs.Tests.{refused_due, refused_scratch, refused_intake, refused_levels, passed_all}
 use Rattle.chunk.proofs.chunk.ColumnChunk.test_batch.Goals as goal
 

@@ -1,0 +1,110 @@
+-- The entry, the offset and the bytes of a page, by its number.
+use Rattle.std.proofs.Common.{◌≡◌, ℕ, zero, suc, ◌+◌, ◌<◌, ◌≤◌, leb, List, [], ◌∷◌, ◌++◌, map, length, get_or, take, drop, Some, None, Option, Ok, Err, Result, sym, refl, ap, ◌∙◌, subst, ⊎_elim, suc-add, zero-add, arith}
+use Rattle.std.proofs.Math.Seq.{take-append_seam}
+use Rattle.std.proofs.lemmas.Bool.{cond-true, cond-false, le-leb, lt-leb, cases_lt}
+use Rattle.std.proofs.lemmas.List.{get_or-append-add}
+use Rattle.std.specs.List.{AllByRecursion, slice_get}
+use Rattle.std.specs.Option.{option_map, ok_or}
+use Rattle.sinks.specs.Stores.{StoreMeaning, CopyOf, Copied}
+use Rattle.sinks.specs.Sinks.{SinkMeaning}
+use Rattle.pages.specs.declared.fault.PageFault.TheVariants.{NoPage}
+use Rattle.refusals.specs.declared.fault.ChunkFault.{ChunkFault}
+use Rattle.refusals.specs.declared.fault.ChunkFault.TheVariants.{Page as OfPage}
+use Rattle.ledger.specs.Pages.{blank}
+use Rattle.ledger.specs.Context.{Context, bytes}
+use Rattle.ledger.specs.Ledger.{Ledger}
+use Rattle.ledger.specs.Entries as ledger
+use Rattle.ledger.specs.Entries.{entry, first_row}
+use Rattle.ledger.specs.Answers.{entry_answer}
+use Rattle.entries.specs.declared.entry.Entry.{Entry}
+use Rattle.entries.specs.Entries.{said_entry}
+use Rattle.chunk.specs.Stands.{Before, Stands}
+use Rattle.chunk.specs.Reads.{answered, offset_of, page_of}
+use Rattle.chunk.specs.declared.chunk.ColumnChunk.{ColumnChunk}
+
+-- ---- lists
+
+found : {X : Type 0} (xs : List X) (k : ℕ) (d : X) → k < length xs → slice_get xs k ≡ Some (get_or xs k d)
+found [] k d h = absurd (omega (arith, h))
+found (x ∷ xs) zero d h = refl
+found (x ∷ xs) (suc k) d h = found xs k d (omega (arith, h))
+
+slice_get-append-add : {X : Type 0} (xs ys : List X) (k : ℕ) → slice_get (xs ++ ys) (length xs + k) ≡ slice_get ys k
+slice_get-append-add [] ys k = ap (slice_get ys) (zero-add k)
+slice_get-append-add (x ∷ xs) ys k = ap (slice_get (x ∷ (xs ++ ys))) (suc-add (length xs) k) ∙ slice_get-append-add xs ys k
+
+map_at : {X Y : Type 0} (f : X → Y) (xs : List X) (k : ℕ) (d : X) → k < length xs → slice_get (map f xs) k ≡ Some (f (get_or xs k d))
+map_at f [] k d h = absurd (omega (arith, h))
+map_at f (x ∷ xs) zero d h = refl
+map_at f (x ∷ xs) (suc k) d h = map_at f xs k d (omega (arith, h))
+
+pub all_at : {X : Type 0} (P : X → Type 0) (xs : List X) (k : ℕ) (d : X) → AllByRecursion P xs → k < length xs → P (get_or xs k d)
+all_at P [] k d a h = absurd (omega (arith, h))
+all_at P (x ∷ xs) zero d a h = a.0
+all_at P (x ∷ xs) (suc k) d a h = all_at P xs k d a.1 (omega (arith, h))
+
+-- ---- entries
+
+module _ (x : Context) (l : Ledger) (off k : ℕ) where
+  abbrev there : ledger.Entry
+  there = entry x off (first_row l.pages k) (page_of l k)
+
+  pub answer_there : k < length l.pages → entry_answer x l off k ≡ Ok there
+  answer_there h = cond-false (leb (length l.pages) k) (Err (OfPage NoPage)) (Ok there) (lt-leb (length l.pages) k h)
+
+  pub answer_past : length l.pages ≤ k → entry_answer x l off k ≡ Err (OfPage NoPage)
+  answer_past h = cond-true (leb (length l.pages) k) (Err (OfPage NoPage)) (Ok there) (le-leb (length l.pages) k h)
+
+  some_there : (r : Option Entry) → option_map said_entry r ≡ Some there → answered said_entry (ok_or r (OfPage NoPage)) ≡ Ok there
+  some_there None h = cc
+  some_there (Some e) h = let z : said_entry e ≡ there = cc in ap (λ y. Ok y) z
+
+  pub entry_answered : (r : Option Entry) (q : Result Entry ChunkFault) → q ≡ ok_or r (OfPage NoPage) → (k < length l.pages → option_map said_entry r ≡ Some there) → (length l.pages ≤ k → r ≡ None)
+      → answered said_entry q ≡ entry_answer x l off k
+  entry_answered r q e here past =
+      ⊎_elim
+      (λ h. ap (answered said_entry) e ∙ some_there r (here h) ∙ sym (answer_there h))
+      (λ h. ap (answered said_entry) (e ∙ ap (λ o. ok_or o (OfPage NoPage)) (past h)) ∙ sym (answer_past h))
+      (cases_lt k (length l.pages))
+
+  -- an entry that was answered is that of a page
+  pub entry_ok : (e : Entry) → Ok (said_entry e) ≡ entry_answer x l off k → (k < length l.pages) × (said_entry e ≡ there)
+  entry_ok e h =
+      ⊎_elim
+      (λ i. (i, let z : ◌≡◌ {A = Result ledger.Entry ChunkFault} (Ok (said_entry e)) (Ok there) = h ∙ answer_there i in cc))
+      (λ i. let z : ◌≡◌ {A = Result ledger.Entry ChunkFault} (Ok (said_entry e)) (Err (OfPage NoPage)) = h ∙ answer_past i in cc)
+      (cases_lt k (length l.pages))
+
+  pub entry_err : (e : ChunkFault) → Err e ≡ entry_answer x l off k → (length l.pages ≤ k) × (e ≡ OfPage NoPage)
+  entry_err e h =
+      ⊎_elim
+      (λ i. let z : ◌≡◌ {A = Result ledger.Entry ChunkFault} (Err e) (Ok there) = h ∙ answer_there i in cc)
+      (λ i. (i, let z : ◌≡◌ {A = Result ledger.Entry ChunkFault} (Err e) (Err (OfPage NoPage)) = h ∙ answer_past i in cc))
+      (cases_lt k (length l.pages))
+
+-- ---- a standing chunk's pages
+
+module _ {K L B S : Type 0} (x : Context) (m : StoreMeaning S) (w : SinkMeaning S) (o : Before) (l : Ledger) (c : ColumnChunk K L B S) (s : Stands x m w o l c) (k : ℕ) where
+
+  pub offset_here : offset_of o (m.offsets c.sink) k ≡ get_or s.offsets k 0
+  offset_here =
+      ap (λ os. get_or os (length o.pages + k) 0) s.offsets_behind
+      ∙ ap (λ n. get_or (o.offsets ++ s.offsets) (n + k) 0) (sym s.paired)
+      ∙ get_or-append-add o.offsets s.offsets k 0
+
+  pub bytes_here : k < length l.pages → slice_get (m.pages c.sink) (c.base + k) ≡ Some (bytes x (page_of l k))
+  bytes_here h =
+      ap (slice_get (m.pages c.sink)) (ap (λ n. n + k) s.base)
+      ∙ ap (λ ps. slice_get ps (length o.pages + k)) s.pages_behind
+      ∙ slice_get-append-add o.pages (map (bytes x) l.pages) k ∙ map_at (bytes x) l.pages k blank h
+
+  pub short_here : k < length l.pages → length (bytes x (page_of l k)) ≤ 9227
+  short_here h = all_at (λ p. length (bytes x p) ≤ 9227) l.pages k blank s.log.sizes h
+
+-- copying bytes that are there into a room that is wide enough
+pub copied : (bs out out' : List ℕ) (r : Option ℕ) (q : Result ℕ ChunkFault) (f : ChunkFault) (p : Option (List ℕ)) → p ≡ Some bs → length bs ≤ length out → Copied p out out' r → q ≡ ok_or r f
+    → (q ≡ Ok (length bs)) × (take (length bs) out' ≡ bs)
+copied bs out out' None q f p e few h v = let c : CopyOf bs out out' None = subst (λ y. Copied y out out' None) e h in absurd (omega (arith, c.0))
+copied bs out out' (Some n) q f p e few h v =
+    let c : CopyOf bs out out' (Some n) = subst (λ y. Copied y out out' (Some n)) e h in
+    (v ∙ ap (λ k. Ok k) c.0, ap (take (length bs)) c.2 ∙ take-append_seam bs (drop n out))
