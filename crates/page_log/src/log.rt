@@ -12,7 +12,7 @@ ghost use Rattle.ledger.specs.Context.{Context, layout as layout_of, bytes};
 ghost use Rattle.ledger.specs.Entries.{marks, marks_in, entry, entry_list, first_row};
 ghost use Rattle.ledger.specs.Pages.{Page, blank, joined, rows};
 ghost use Rattle.ledger.specs.Records.{pair_if, stored_if, order, chunk_record};
-ghost use Rattle.metrics.specs.Metrics.{kept, Measures};
+ghost use Rattle.metrics.specs.Metrics.{kept, Measures, Sums};
 ghost use Rattle.entries.specs.Entries.{said_marks, said_entry};
 ghost use Rattle.page_log.specs.Pages.{WellFormed};
 ghost use Rattle.page_log.specs.Logs.{context, Logged, Logs};
@@ -46,7 +46,7 @@ impl PageLog {
     {
         PageLog {
             entries: EntryTable::new(),
-            metrics: ColumnMetrics::new(layout),
+            metrics: no_sums(layout),
             values: Tracker::new(),
             stored: Tracker::new(),
         }
@@ -96,6 +96,7 @@ impl PageLog {
     }
 
     // How many pages there are.
+    #[tactic(auto, using(crate::proofs::Logging::entry_count))]
     pub fn len(&self) -> usize
         ensures pages { (x : Context) (os : List ℕ) (ps : List Page) → Logged x os ps self.now → result ≡ length ps }
         ensures within { result ≤ 64 }
@@ -104,6 +105,7 @@ impl PageLog {
     }
 
     // The entry of page k, absent where there is no such page.
+    #[tactic(auto, using(crate::proofs::Logging::entry_there, crate::proofs::Logging::entry_past))]
     pub fn entry(&self, k: usize) -> Option<Entry>
         ensures listed { (x : Context) (os : List ℕ) (ps : List Page) → Logged x os ps self.now → option_map said_entry result ≡ slice_get (entry_list x 0 os ps) k }
         ensures there { (x : Context) (os : List ℕ) (ps : List Page) → Logged x os ps self.now → k < length ps → option_map said_entry result ≡ Some (entry x (slice_index os k) (first_row ps k) (slice_index_or ps k blank)) }
@@ -150,6 +152,13 @@ impl PageLog {
             boundary: boundary_order(self.stored.is_ascending(), self.stored.is_descending()),
         }
     }
+}
+
+// The sums of no page. By itself, since a column's layout needs a word on its maxima, which are at most 15 whatever was given.
+fn no_sums(layout: Layout) -> ColumnMetrics
+    ensures { (x : Context) → layout ≡ layout_of x → Sums x.kind (layout_of x) blank 0 result }
+{
+    ColumnMetrics::new(layout)
 }
 
 // The marks of a page, which Page mode keeps.
