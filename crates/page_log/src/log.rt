@@ -44,11 +44,14 @@ impl PageLog {
     pub fn new(layout: Layout) -> PageLog
         ensures { (x : Context) → layout ≡ layout_of x → Logged x [] [] result }
     {
+        let (metrics, values) = of_no_page(layout);
+        // A copy by itself, since the check gives one variable to one field.
+        let stored = values;
         PageLog {
             entries: EntryTable::new(),
-            metrics: no_sums(layout),
-            values: Tracker::new(),
-            stored: Tracker::new(),
+            metrics,
+            values,
+            stored,
         }
     }
 
@@ -154,11 +157,12 @@ impl PageLog {
     }
 }
 
-// The sums of no page. By itself, since a column's layout needs a word on its maxima, which are at most 15 whatever was given.
-fn no_sums(layout: Layout) -> ColumnMetrics
-    ensures { (x : Context) → layout ≡ layout_of x → Sums x.kind (layout_of x) blank 0 result }
+// The sums and the order of no page. By itself, since a word is needed on a column's maxima: they are at most 15,
+// whatever was given.
+fn of_no_page(layout: Layout) -> (ColumnMetrics, Tracker)
+    ensures { (x : Context) → layout ≡ layout_of x → Sums x.kind (layout_of x) blank 0 result.0 × Tracks x.kind [] result.1 }
 {
-    ColumnMetrics::new(layout)
+    (ColumnMetrics::new(layout), Tracker::new())
 }
 
 // The marks of a page, which Page mode keeps.
