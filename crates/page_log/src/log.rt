@@ -145,6 +145,7 @@ impl PageLog {
             order: (mode == Mode::Page).then(|| self.order()),
         }
     }
+
     // The orders of the pages: by their values, and by what is stored.
     fn order(&self) -> Order
         ensures { (x : Context) (os : List ℕ) (ps : List Page) → Logged x os ps self.now → said_order result ≡ order x ps }
@@ -157,8 +158,7 @@ impl PageLog {
     }
 }
 
-// The sums and the order of no page. By itself, since a word is needed on a column's maxima: they are at most 15,
-// whatever was given.
+// The sums and the order of no page. By itself, so that the maxima, at most 15 whatever column was given, are looked at here.
 fn of_no_page(layout: Layout) -> (ColumnMetrics, Tracker)
     ensures { (x : Context) → layout ≡ layout_of x → Sums x.kind (layout_of x) blank 0 result.0 × Tracks x.kind [] result.1 }
 {
