@@ -1,7 +1,12 @@
 -- A page has no value exactly if all its levels are nulls: each level is a null or has a value.
-use Rattle.std.proofs.Common.{◌≡◌, ℕ, ◌+◌, Bool, true, false, cond, not, eqb, List, [], ◌∷◌, length, count_by, sym, refl, ap, ◌∙◌, ⊎_elim, arith}
+use Rattle.std.proofs.Common.{◌≡◌, ℕ, ◌+◌, Bool, true, false, cond, not, eqb, List, [], ◌∷◌, length, count_by, sym, refl, ◌∙◌, ⊎_elim, arith}
 use Rattle.std.proofs.lemmas.Bool.{cases_eq, eq-eqb, ne_eqb}
 use Rattle.std.proofs.lemmas.List.Sums.{sum_by-cons}
+use Rattle.kinds.specs.Meaning.{Meaning}
+use Rattle.pages.specs.declared.layout.Layout.{Layout}
+use Rattle.ledger.specs.Pages.{Page}
+use Rattle.metrics.specs.Metrics.{Measures}
+use Rattle.metrics.specs.declared.page.PageMetrics.{PageMetrics}
 
 one_of_both : (b : Bool) → cond b 1 0 + cond (not b) 1 0 ≡ 1
 one_of_both true = refl
@@ -26,9 +31,9 @@ same_eqb a b c d to from =
     (λ n. ne_eqb a b n ∙ sym (ne_eqb c d (λ e. n (from e))))
     (cases_eq a b)
 
--- n levels, k of them nulls, and a value for each of the others
-pub null_page_is : {X : Type 0} (p : X → Bool) (xs : List X) (values n k : ℕ) → values ≡ count_by p xs → n ≡ length xs → k ≡ count_by (λ x. not (p x)) xs
-    → eqb n k ≡ eqb values 0
-null_page_is p xs values n k v e f =
-    let both = count_both p xs in
-    same_eqb n k values 0 (λ h. omega (arith, h, v, e, f, both)) (λ h. omega (arith, h, v, e, f, both))
+-- the counts of a page say that all its levels are nulls exactly if it has no value
+pub null_page_is : (m : Meaning) (l : Layout) (p : Page) (t : PageMetrics) → Measures m l p t → length p.values ≡ count_by (eqb l.max_def_level) p.defs
+    → eqb t.num_buffered_values t.num_page_nulls ≡ eqb (length p.values) 0
+null_page_is m l p t c v =
+    let both = count_both (eqb l.max_def_level) p.defs in
+    same_eqb t.num_buffered_values t.num_page_nulls (length p.values) 0 (λ h. omega (arith, h, v, c.levels, c.nulls, both)) (λ h. omega (arith, h, v, c.levels, c.nulls, both))

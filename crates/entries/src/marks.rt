@@ -28,6 +28,7 @@ impl Marks {
 
     // The marks of a page, by its counts and its smallest and largest value. The counts do not tell the page, so that the
     // contract speaks of every page that has them, and a value for each level of the maximum.
+    #[tactic(auto, using(crate::proofs::Nulls::null_page_is))]
     pub fn new<K: Kind>(
         cut: Option<usize>,
         page: &PageMetrics,

@@ -52,14 +52,14 @@ impl EntryTable {
         ensures value { result ≡ length self.now }
         ensures within { result ≤ 64 }
     {
-        self.used
+        self.as_slice().len()
     }
 
     // The entry at a place, absent behind the last.
     pub fn get(&self, k: usize) -> Option<Entry>
         ensures { result ≡ slice_get self.now k }
     {
-        self.entries[..self.used].get(k).copied()
+        self.as_slice().get(k).copied()
     }
 
     // Puts an entry behind the others, or answers `None`, and puts none, where there are 64.
@@ -72,5 +72,12 @@ impl EntryTable {
         self.entries[self.used] = entry;
         self.used += 1;
         Some(())
+    }
+
+    fn as_slice(&self) -> &[Entry]
+        ensures entries { result.now ≡ self.now }
+        ensures fits { length self.now ≤ 64 }
+    {
+        &self.entries[..self.used]
     }
 }

@@ -1,10 +1,8 @@
 -- The entries of pages, one by one: entry k is that of page k, and a page behind the others adds its entry.
-use Rattle.std.proofs.Common.{◌≡◌, ℕ, zero, suc, ◌+◌, ◌<◌, ◌≤◌, List, [], ◌∷◌, ◌++◌, map, length, get_or, take, Some, None, Option, sym, refl, ap, ◌∙◌, arith}
+use Rattle.std.proofs.Common.{◌≡◌, ℕ, zero, suc, ◌+◌, ◌<◌, List, [], ◌∷◌, ◌++◌, length, get_or, take, Some, refl, ap, ◌∙◌, arith}
 use Rattle.std.specs.List.{slice_get}
-use Rattle.std.proofs.lemmas.List.{length-map}
-use Rattle.std.proofs.lemmas.Option.{slice_get-map, slice_get_past}
 use Rattle.ledger.specs.Context.{Context}
-use Rattle.ledger.specs.Entries.{Entry, entry, entry_list, first_row}
+use Rattle.ledger.specs.Entries.{entry, entry_list, first_row}
 use Rattle.ledger.specs.Pages.{Page, blank, joined, rows}
 use Rattle.ledger.proofs.Joining.{rows_join}
 

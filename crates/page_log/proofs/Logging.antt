@@ -1,15 +1,17 @@
 -- One page more in a log: its entry stands behind the others, its counts are added, and its pairs are taken.
-use Rattle.std.proofs.Common.{◌≡◌, ℕ, ◌+◌, ◌*◌, ◌^◌, ◌<◌, ◌≤◌, Bool, true, false, cond, List, [], ◌∷◌, ◌++◌, map, length, sum_by, count_by, Some, Option, sym, refl, ap, subst, ◌∙◌, mul_comm, eqb, zero-add, arith, length-append}
+use Rattle.std.proofs.Common.{◌≡◌, ℕ, ◌+◌, ◌^◌, ◌<◌, ◌≤◌, Bool, true, false, cond, List, [], ◌∷◌, ◌++◌, map, length, sum_by, get_or, Some, None, Option, sym, refl, ap, subst, ◌∙◌, eqb, zero-add, arith}
 use Rattle.std.specs.Prelude.{ℤ, pos, negsuc, nat_le}
-use Rattle.std.specs.List.{AllByRecursion}
+use Rattle.std.specs.Option.{option_map}
+use Rattle.std.specs.List.{AllByRecursion, slice_get}
+use Rattle.std.proofs.lemmas.Option.{slice_get-map, slice_get_past}
 use Rattle.std.proofs.lemmas.Bool.{leb-true}
 use Rattle.columns.specs.Columns.{level_of}
 use Rattle.std.proofs.ByRecursion.{sum_by_le}
 use Rattle.std.proofs.lemmas.List.{map-append, length-map, length_push}
 use Rattle.std.proofs.lemmas.List.Sums.{sum_by_push, count_by-le-length}
 use Rattle.ledger.specs.Context.{Context, layout, bytes}
-use Rattle.ledger.specs.Entries.{entry, entry_list}
-use Rattle.ledger.specs.Pages.{Page, join, joined, rows}
+use Rattle.ledger.specs.Entries.{entry, entry_list, first_row}
+use Rattle.ledger.specs.Pages.{Page, blank, join, joined, rows}
 use Rattle.ledger.specs.Records.{pair_if, value_pairs, stored_if, stored_pairs}
 use Rattle.ledger.proofs.Joining.{joined_push, reps_add, defs_add, values_add, adds_few, value_pairs_push, stored_pairs_push}
 use Rattle.figures.specs.Figures.{smallest, largest}
@@ -23,7 +25,7 @@ use Rattle.entries.specs.declared.entry.Entry.{Entry}
 use Rattle.open_page.specs.Pages.{WellFormed}
 use Rattle.page_log.specs.Logs.{Logged}
 use Rattle.page_log.specs.declared.log.PageLog.{PageLog}
-use Rattle.page_log.proofs.Listing.{length-entry_list, entry_list_push}
+use Rattle.page_log.proofs.Listing.{length-entry_list, entry_list_push, entry_at}
 
 -- ---- what holds of each page
 
@@ -49,6 +51,16 @@ level_few (negsuc n) = omega arith
 -- as many entries as pages
 pub entry_count : (x : Context) (os : List ℕ) (ps : List Page) (g : PageLog) → Logged x os ps g → length g.entries ≡ length ps
 entry_count x os ps g t = sym (length-map g.entries said_entry) ∙ ap length t.entries ∙ length-entry_list x 0 os ps t.offsets
+
+-- the entry at a place is that of its page, and behind the last page is none
+pub entry_there : (x : Context) (os : List ℕ) (ps : List Page) (g : PageLog) (k : ℕ) → Logged x os ps g → k < length ps
+    → option_map said_entry (slice_get g.entries k) ≡ Some (entry x (get_or os k 0) (first_row ps k) (get_or ps k blank))
+entry_there x os ps g k t h =
+    sym (slice_get-map said_entry g.entries k) ∙ ap (λ ls. slice_get ls k) t.entries
+    ∙ entry_at x 0 os ps k t.offsets h ∙ ap (λ n. Some (entry x (get_or os k 0) n (get_or ps k blank))) (zero-add (first_row ps k))
+
+pub entry_past : (x : Context) (os : List ℕ) (ps : List Page) (g : PageLog) (k : ℕ) → Logged x os ps g → length ps ≤ k → slice_get g.entries k ≡ None
+entry_past x os ps g k t h = slice_get_past g.entries k (omega (arith, h, entry_count x os ps g t))
 
 -- a well-formed page has few levels and few values
 reps_few : (x : Context) (p : Page) → WellFormed (layout x) p → length p.reps ≤ 1024
@@ -93,10 +105,10 @@ logged_more x os ps o n p lo hi g e es s v b t w size short low high few entries
     let SumsOf : Page → ℕ → Type 0 = λ q k. Sums m (layout x) q k s in
     let total : sum_by size_of ps + n ≡ sum_by size_of (ps ++ (p ∷ [])) = ap (λ k. sum_by size_of ps + k) size ∙ sym (sum_by_push size_of ps p) in
     let pair : value_pairs m ps ++ pair_if lo hi ≡ value_pairs m (ps ++ (p ∷ [])) =
-      ap (λ u. value_pairs m ps ++ pair_if u hi) low ∙ ap (λ u. value_pairs m ps ++ pair_if (smallest m p.values) u) high ∙ sym (value_pairs_push m ps p) in
+    ap (λ u. value_pairs m ps ++ pair_if u hi) low ∙ ap (λ u. value_pairs m ps ++ pair_if (smallest m p.values) u) high ∙ sym (value_pairs_push m ps p) in
     let kept_pair : stored_pairs m cut ps ++ stored_if m cut lo hi ≡ stored_pairs m cut (ps ++ (p ∷ [])) =
-      ap (λ u. stored_pairs m cut ps ++ stored_if m cut u hi) low ∙ ap (λ u. stored_pairs m cut ps ++ stored_if m cut (smallest m p.values) u) high
-      ∙ sym (stored_pairs_push m cut ps p) in
+    ap (λ u. stored_pairs m cut ps ++ stored_if m cut u hi) low ∙ ap (λ u. stored_pairs m cut ps ++ stored_if m cut (smallest m p.values) u) high
+    ∙ sym (stored_pairs_push m cut ps p) in
     record {
       entries =
           ap (map said_entry) entries ∙ map-append said_entry g.entries (e ∷ [])

@@ -12,7 +12,7 @@ ghost use Rattle.ledger.specs.Context.{Context, layout as layout_of, bytes};
 ghost use Rattle.ledger.specs.Entries.{marks, marks_in, entry, entry_list, first_row};
 ghost use Rattle.ledger.specs.Pages.{Page, blank, joined, rows};
 ghost use Rattle.ledger.specs.Records.{pair_if, stored_if, order, chunk_record};
-ghost use Rattle.metrics.specs.Metrics.{kept, Measures};
+ghost use Rattle.metrics.specs.Metrics.{kept, Measures, Sums};
 ghost use Rattle.entries.specs.Entries.{said_marks, said_entry};
 ghost use Rattle.open_page.specs.Pages.{WellFormed};
 ghost use Rattle.page_log.specs.Logs.{context, Logged, Logs};
@@ -44,11 +44,14 @@ impl PageLog {
     pub fn new(layout: Layout) -> PageLog
         ensures { (x : Context) → layout ≡ layout_of x → Logged x [] [] result }
     {
+        let (metrics, values) = of_no_page(layout);
+        // A copy by itself, since the check gives one variable to one field.
+        let stored = values;
         PageLog {
             entries: EntryTable::new(),
-            metrics: ColumnMetrics::new(layout),
-            values: Tracker::new(),
-            stored: Tracker::new(),
+            metrics,
+            values,
+            stored,
         }
     }
 
@@ -96,6 +99,7 @@ impl PageLog {
     }
 
     // How many pages there are.
+    #[tactic(auto, using(crate::proofs::Logging::entry_count))]
     pub fn len(&self) -> usize
         ensures pages { (x : Context) (os : List ℕ) (ps : List Page) → Logged x os ps self.now → result ≡ length ps }
         ensures within { result ≤ 64 }
@@ -104,6 +108,7 @@ impl PageLog {
     }
 
     // The entry of page k, absent where there is no such page.
+    #[tactic(auto, using(crate::proofs::Logging::entry_there, crate::proofs::Logging::entry_past))]
     pub fn entry(&self, k: usize) -> Option<Entry>
         ensures listed { (x : Context) (os : List ℕ) (ps : List Page) → Logged x os ps self.now → option_map said_entry result ≡ slice_get (entry_list x 0 os ps) k }
         ensures there { (x : Context) (os : List ℕ) (ps : List Page) → Logged x os ps self.now → k < length ps → option_map said_entry result ≡ Some (entry x (slice_index os k) (first_row ps k) (slice_index_or ps k blank)) }
@@ -140,6 +145,7 @@ impl PageLog {
             order: (mode == Mode::Page).then(|| self.order()),
         }
     }
+
     // The orders of the pages: by their values, and by what is stored.
     fn order(&self) -> Order
         ensures { (x : Context) (os : List ℕ) (ps : List Page) → Logged x os ps self.now → said_order result ≡ order x ps }
@@ -150,6 +156,13 @@ impl PageLog {
             boundary: boundary_order(self.stored.is_ascending(), self.stored.is_descending()),
         }
     }
+}
+
+// The sums and the order of no page. By itself, so that the maxima, at most 15 whatever column was given, are looked at here.
+fn of_no_page(layout: Layout) -> (ColumnMetrics, Tracker)
+    ensures { (x : Context) → layout ≡ layout_of x → Sums x.kind (layout_of x) blank 0 result.0 × Tracks x.kind [] result.1 }
+{
+    (ColumnMetrics::new(layout), Tracker::new())
 }
 
 // The marks of a page, which Page mode keeps.

@@ -1,4 +1,4 @@
-use Rattle.std.proofs.Common.{◌<◌, length, None, Option, sum_by, sym, subst, ◌∙◌, arith}
+use Rattle.std.proofs.Common.{◌<◌, length, Option, sum_by, sym, subst, ◌∙◌, arith}
 use Rattle.ledger.specs.Context.{Context, layout, bytes}
 use Rattle.ledger.specs.Pages.{joined}
 use Rattle.ledger.specs.Records.{value_pairs, stored_pairs}

@@ -1,4 +1,3 @@
-use Rattle.std.proofs.Common.{ap, ◌∙◌}
 use Rattle.ledger.specs.Context.{layout}
 use Rattle.page_log.specs.Logs.{context}
 use Rattle.page_log.proofs.log.PageLog.next_entry.Goals as goal

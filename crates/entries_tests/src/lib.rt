@@ -1,0 +1,14 @@
+// Entries and records of small pages, by numbers worked out by hand.
+
+#![tactic(auto)]
+
+#[cfg(test)]
+mod bounds;
+#[cfg(test)]
+mod helper;
+#[cfg(test)]
+mod logs;
+#[cfg(test)]
+mod pages;
+#[cfg(test)]
+mod tables;
