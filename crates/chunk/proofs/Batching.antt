@@ -43,7 +43,6 @@ passes x room l b i h =
     }
 
 module _ {K L B S : Type 0} (x : Context) (m : StoreMeaning S) (w : SinkMeaning S) (o : Before) (l : Ledger) (b : Batch) (c : ColumnChunk K L B S) (st : Stands x m w o l c) where
-
   pub batch_refused : (s : List ℕ) (r : Result BatchDone ChunkFault) (e : ChunkFault) → r ≡ Err e → tested (batch_tests x (length s) l b) (Ok (intake_of (layout x) b)) ≡ Err e → Batched x m w o l b c s r c s
   batch_refused s r e h t = subst (λ q. Batched x m w o l b c s q c s) (sym h) (record {
     answer = sym (tested_err (batch_tests x (length s) l b) (intake_of (layout x) b) e (Ok (settled x (w.takes c.sink) l b)) t);

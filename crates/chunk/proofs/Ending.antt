@@ -27,7 +27,6 @@ turned_phase (suc n) l = refl
 -- ---- cut and close
 
 module _ {K L B S : Type 0} (x : Context) (m : StoreMeaning S) (w : SinkMeaning S) (o : Before) (l : Ledger) (c : ColumnChunk K L B S) where
-
   pub cut_refused : (s : List ℕ) (e : ChunkFault) → Stands x m w o l c → tested {A = Unit {0}} (end_tests l (length s)) (Ok tt) ≡ Err e → CutBy x m w o l c s (Err e) c s
   cut_refused s e st h = record {
     answer = sym (tested_err (end_tests l (length s)) tt e (written x (w.takes c.sink) l) h);
@@ -79,7 +78,7 @@ module _ {K L B S : Type 0} (x : Context) (m : StoreMeaning S) (w : SinkMeaning 
     kept = tt;
   }
 
--- ---- a page that a batch leaves
+  -- ---- a page that a batch leaves
 
   pub settled_not_due : (s : List ℕ) (n : ℕ) → Stands x m w o l c → due x l.page ≡ false → Settled x m w o l n c s (done n (Ok 0)) c s
   settled_not_due s n st h = record {

@@ -35,9 +35,9 @@ read_some most ls z = cond-false (eqb most 0) [] ls (ne_eqb most 0 z)
 count_read : (most : ℕ) (ls : List ℕ) → length (levels_read most ls) ≡ list_count most (length ls)
 count_read most ls = by (eqb most 0)
   where
-  by : (b : Bool) → length (cond b [] ls) ≡ cond b 0 (length ls)
-  by true = refl
-  by false = refl
+    by : (b : Bool) → length (cond b [] ls) ≡ cond b 0 (length ls)
+    by true = refl
+    by false = refl
 
 part_read : (c : Coding) (version most : ℕ) (ls : List ℕ) → level_part c version most ls ≡ level_part c version most (levels_read most ls)
 part_read c version most ls =
@@ -49,9 +49,9 @@ part_read c version most ls =
 fits_read : (most : ℕ) (ls : List ℕ) → ListFits most ls → ListFits most (levels_read most ls)
 fits_read most ls f = by (eqb most 0)
   where
-  by : (b : Bool) → ListFits most (cond b [] ls)
-  by true = record { few = omega arith; narrow = f.narrow; fit = tt }
-  by false = f
+    by : (b : Bool) → ListFits most (cond b [] ls)
+    by true = record { few = omega arith; narrow = f.narrow; fit = tt }
+    by false = f
 
 -- ---- a page
 
@@ -99,10 +99,10 @@ module _ (x : Context) (p : Page) (ok : accepted x ≡ true) (few : Allowed (lay
       (le-ltb (length dn) (length defs) (omega (arith, r.def_room, holds.def_count)))
       (le-ltb (length po) (length (plain_bytes x p)) r.plain_room)
     where
-    by : (a b c : Bool) → a ≡ false → b ≡ false → c ≡ false → (a || (b || c)) ≡ false
-    by true b c h i j = h
-    by false true c h i j = i
-    by false false c h i j = j
+      by : (a b c : Bool) → a ≡ false → b ≡ false → c ≡ false → (a || (b || c)) ≡ false
+      by true b c h i j = h
+      by false true c h i j = i
+      by false false c h i j = j
 
   -- ---- counts
 
@@ -137,7 +137,7 @@ module _ (x : Context) (p : Page) (ok : accepted x ≡ true) (few : Allowed (lay
       × (ro' ≡ read_into q reps ro) × (dn' ≡ read_into q defs dn) × (po' ≡ read_into q (plain_bytes x p) po)
   read_back ro dn po ro' dn' po' None q h n v =
       let t : tight x p (length ro) (length dn) (length po) ≡ true =
-        ⊎_elim (λ y. y) (λ y. absurd (h.3 reps defs (plain_bytes x p) holds (roomy ro dn po y))) (cases_Bool (tight x p (length ro) (length dn) (length po))) in (
+      ⊎_elim (λ y. y) (λ y. absurd (h.3 reps defs (plain_bytes x p) holds (roomy ro dn po y))) (cases_Bool (tight x p (length ro) (length dn) (length po))) in (
         v ∙ sym (cond-true (tight x p (length ro) (length dn) (length po)) (Err (OfPage ReadLists)) (Ok (read_counts x p)) t),
         h.0 ∙ ap (λ y. read_into y reps ro) (sym v),
         h.1 ∙ ap (λ y. read_into y defs dn) (sym v),
@@ -150,7 +150,7 @@ module _ (x : Context) (p : Page) (ok : accepted x ≡ true) (few : Allowed (lay
       let b : r.bytes ≡ length (plain_bytes x p) = h.size ∙ ap length e.2 in
       let vs : r.values ≡ length p.values = n.1 ∙ ap (values_in (layout x).max_def_level (levels p)) after ∙ values_here (drop (length defs) dn) in (
         v ∙ ap (λ y. Ok y) (same_counts r n.0 vs b)
-        ∙ sym (cond-false (tight x p (length ro) (length dn) (length po)) (Err (OfPage ReadLists)) (Ok (read_counts x p)) (not_tight ro dn po room)),
+            ∙ sym (cond-false (tight x p (length ro) (length dn) (length po)) (Err (OfPage ReadLists)) (Ok (read_counts x p)) (not_tight ro dn po room)),
         h.rep_after ∙ ap (λ y. y ++ drop (length y) ro) e.0 ∙ ap (λ y. read_into y reps ro) (sym v),
         after ∙ ap (λ y. read_into y defs dn) (sym v),
         h.plain_after ∙ ap (λ k. h.plain ++ drop k po) h.size ∙ ap (λ y. y ++ drop (length y) po) e.2 ∙ ap (λ y. read_into y (plain_bytes x p) po) (sym v),

@@ -29,6 +29,6 @@ begins_by m c b col set = phase_by_both (column_fits m col) (settings_fit c b co
 pub accepted_begins : (x : Context) → is_accepted (begins x) ≡ accepted x
 accepted_begins x = by_bool (accepted x)
   where
-  by_bool : (b : Bool) → is_accepted (cond b Open Refused) ≡ b
-  by_bool true = refl
-  by_bool false = refl
+    by_bool : (b : Bool) → is_accepted (cond b Open Refused) ≡ b
+    by_bool true = refl
+    by_bool false = refl

@@ -85,7 +85,6 @@ module _ (x : Context) (l : Ledger) (off k : ℕ) where
 -- ---- a standing chunk's pages
 
 module _ {K L B S : Type 0} (x : Context) (m : StoreMeaning S) (w : SinkMeaning S) (o : Before) (l : Ledger) (c : ColumnChunk K L B S) (s : Stands x m w o l c) (k : ℕ) where
-
   pub offset_here : offset_of o (m.offsets c.sink) k ≡ get_or s.offsets k 0
   offset_here =
       ap (λ os. get_or os (length o.pages + k) 0) s.offsets_behind

@@ -23,7 +23,6 @@ map_behind f [] y = refl
 map_behind f (x ∷ xs) y = ap (λ zs. f x ∷ zs) (map_behind f xs y)
 
 module _ {K L B S : Type 0} (x : Context) (m : StoreMeaning S) (w : SinkMeaning S) (o : Before) (l : Ledger) (c : ColumnChunk K L B S) (s : Stands x m w o l c) where
-
   pub wrote_nothing : (scr : List ℕ) → levels l.page ≡ 0 → Wrote x m w o l c scr (Ok 0) c scr
   wrote_nothing scr z = record {
     answer = sym (cond-true (eqb (levels l.page) 0) (Ok 0) _ (eq-eqb (levels l.page) 0 z));

@@ -18,12 +18,17 @@ use sinks::{PageSink, PageStore};
 
 impl<K: Kind, L: LevelCoder, B: BodyCoder, S: PageSink> ColumnChunk<K, L, B, S> {
     // Adds a batch's levels, and the values that they need, to the open page, which is written if it is then due.
-    pub fn batch<V: ValueOf<K> + Copy>(&mut self, batch: Batch<V>, scratch: &mut [u8]) -> Result<BatchDone, ChunkFault>
+    pub fn batch<V: ValueOf<K> + Copy>(
+        &mut self,
+        batch: Batch<V>,
+        scratch: &mut [u8],
+    ) -> Result<BatchDone, ChunkFault>
         ensures { (o : Before) (l : Ledger) → Stands (context_of K.Kind.meaning L.LevelCoder.coding B.BodyCoder.body self.old) S.PageStore.meaning S.PageSink.meaning o l self.old → Batched (context_of K.Kind.meaning L.LevelCoder.coding B.BodyCoder.body self.old) S.PageStore.meaning S.PageSink.meaning o l (batch_of V.ValueOf.bytes batch.entry) self.old scratch.old result self.new scratch.new }
     {
         let intake = self.test_batch::<V>(batch, scratch.len())?;
         let layout = self.layout();
-        self.page.write_mini_batch::<K, V>(layout, batch, intake.values);
+        self.page
+            .write_mini_batch::<K, V>(layout, batch, intake.values);
         Ok(self.settle(intake.values, scratch))
     }
 
@@ -45,7 +50,11 @@ impl<K: Kind, L: LevelCoder, B: BodyCoder, S: PageSink> ColumnChunk<K, L, B, S> 
     }
 
     // What a batch is refused for, or what it needs.
-    fn test_batch<V: ValueOf<K> + Copy>(&self, batch: Batch<V>, room: usize) -> Result<Intake, ChunkFault>
+    fn test_batch<V: ValueOf<K> + Copy>(
+        &self,
+        batch: Batch<V>,
+        room: usize,
+    ) -> Result<Intake, ChunkFault>
         ensures passes { OnOk result ((is_open self.now.phase ≡ true) × (9227 ≤ room)) }
         ensures tests { (o : Before) (l : Ledger) → Stands (context_of K.Kind.meaning L.LevelCoder.coding B.BodyCoder.body self.now) S.PageStore.meaning S.PageSink.meaning o l self.now → result ≡ tested (batch_tests (context_of K.Kind.meaning L.LevelCoder.coding B.BodyCoder.body self.now) room l (batch_of V.ValueOf.bytes batch.entry)) (Ok (intake_of (layout_in (context_of K.Kind.meaning L.LevelCoder.coding B.BodyCoder.body self.now)) (batch_of V.ValueOf.bytes batch.entry))) }
     {

@@ -4,13 +4,13 @@ ghost use Rattle.ledger.specs.Ledger.{fresh};
 ghost use Rattle.page_log.specs.Logs.{context};
 ghost use Rattle.chunk.specs.Stands.{held, begins, Stands};
 
-use open_page::OpenPage;
-use page_log::PageLog;
 use body_coder::BodyCoder;
 use columns::{Column, Settings, check, layout};
 use kinds::Kind;
 use ledger::Phase;
 use level_coder::LevelCoder;
+use open_page::OpenPage;
+use page_log::PageLog;
 use pages::Layout;
 use sinks::{PageSink, PageStore};
 use std::marker::PhantomData;

@@ -5,7 +5,6 @@
 
 mod calls;
 mod chunk;
-
 mod reads;
 mod writes;
 

@@ -6,10 +6,10 @@ ghost use Rattle.ledger.specs.Answers.{write_tests, done};
 ghost use Rattle.chunk.specs.Stands.{Before, Stands, context_of, scratched, Wrote, Settled, Out};
 
 use crate::chunk::ColumnChunk;
-use open_page::OpenPage;
 use body_coder::BodyCoder;
 use kinds::Kind;
 use level_coder::LevelCoder;
+use open_page::OpenPage;
 use pages::PageFault;
 use refusals::{BatchDone, ChunkFault};
 use sinks::{Fault, PageSink, PageStore};

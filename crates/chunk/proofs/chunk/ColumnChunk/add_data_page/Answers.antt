@@ -46,7 +46,7 @@ returns-in_err-offset g c = λ o l s.
     let n : c.in_ok-size.size ≡ k = let e = sym c.in_ok-size.was ∙ (c.page_size.ensures o l s).0 in cc in
     let n2 : c.in_ok-size-2.size ≡ k = let e = sym c.in_ok-size-2.was ∙ b.0 in cc in
     let h : tested (write_tests (w.takes c.args.self.now.sink) (length l.pages) k) (Ok tt) ≡ Ok tt =
-      ap (λ i. tested (write_tests (w.takes c.args.self.now.sink) (length l.pages) i) (Ok tt)) (sym n) ∙ sym (c.test_write.ensures o l s) ∙ c.in_ok-test_write.was in
+    ap (λ i. tested (write_tests (w.takes c.args.self.now.sink) (length l.pages) i) (Ok tt)) (sym n) ∙ sym (c.test_write.ensures o l s) ∙ c.in_ok-test_write.was in
     let t = (may_write x g.S.PageStore.meaning w o l c.args.self.now s h).1 in
     let fr : take c.in_ok-size-2.size c.build_page.new.scratch ≡ bytes x l.page = ap (take c.in_ok-size-2.size) b.1 ∙ front (bytes x l.page) c.args.scratch.now c.in_ok-size-2.size n2 in
     absurd (true≢false (sym t ∙ ap (λ p. w.takes c.args.self.now.sink (length p)) (sym fr) ∙ c.in_err-offset.ensures.0))
@@ -62,12 +62,12 @@ returns g c = λ o l s.
     let n : c.in_ok-size.size ≡ k = let e = sym c.in_ok-size.was ∙ (c.page_size.ensures o l s).0 in cc in
     let n2 : c.in_ok-size-2.size ≡ k = let e = sym c.in_ok-size-2.was ∙ b.0 in cc in
     let h : tested (write_tests (w.takes c.args.self.now.sink) (length l.pages) k) (Ok tt) ≡ Ok tt =
-      ap (λ i. tested (write_tests (w.takes c.args.self.now.sink) (length l.pages) i) (Ok tt)) (sym n) ∙ sym (c.test_write.ensures o l s) ∙ c.in_ok-test_write.was in
+    ap (λ i. tested (write_tests (w.takes c.args.self.now.sink) (length l.pages) i) (Ok tt)) (sym n) ∙ sym (c.test_write.ensures o l s) ∙ c.in_ok-test_write.was in
     let t = (may_write x m w o l c.args.self.now s h).0 in
     let fr : take c.in_ok-size-2.size c.build_page.new.scratch ≡ bytes x l.page = ap (take c.in_ok-size-2.size) b.1 ∙ front (bytes x l.page) c.args.scratch.now c.in_ok-size-2.size n2 in
     let logged = c.add_data_page.ensures x.levels x.body x.column s.offsets l.pages l.page s.log
-      (c.metrics.ensures x.kind (layout x) l.page s.page) (c.min.ensures x.kind (layout x) l.page s.page) (c.max.ensures x.kind (layout x) l.page s.page)
-      s.page.well n2 (omega (arith, n2, few)) in
+    (c.metrics.ensures x.kind (layout x) l.page s.page) (c.min.ensures x.kind (layout x) l.page s.page) (c.max.ensures x.kind (layout x) l.page s.page)
+    s.page.well n2 (omega (arith, n2, few)) in
     wrote_page x m w o l c.args.self.now s c.args.scratch.now c.build_page.new.scratch c.write_out.new.sink c.add_data_page.new.self c.new-self.result c.in_ok-offset.offset
     (open_accepted l.phase (accepted x) (ap is_open (sym s.phase) ∙ c.requires.phase) s.allowed)
     (λ z. c.if-level_count-eq0.false (c.level_count.ensures.page x.kind (layout x) l.page s.page ∙ z)) h

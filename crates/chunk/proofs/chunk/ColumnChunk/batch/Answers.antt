@@ -30,9 +30,9 @@ returns g c = λ o l s.
     let a : accepted x ≡ true = open_accepted l.phase (accepted x) k.begun s.allowed in
     let e = c.layout-layout.ensures in
     let w : Opened x.kind (layout x) (join l.page (taken (layout x) b)) c.write_mini_batch.new.self =
-      subst (λ y. Opened x.kind y (join l.page (taken y b)) c.write_mini_batch.new.self) e
-      (c.write_mini_batch.ensures l.page (subst (λ y. Opened x.kind y l.page c.args.self.now.page) (sym e) s.page)
-      (subst (λ y. Admitted y b) (sym e) k.fits) (k.values ∙ ap (λ y. needed y b) (sym e)) k.room
-      (subst (λ y. length (plains y.width l.page.values) ≤ 4095) (sym e) (not_due_light x a l.page s.page.well k.waits))) in
+    subst (λ y. Opened x.kind y (join l.page (taken y b)) c.write_mini_batch.new.self) e
+    (c.write_mini_batch.ensures l.page (subst (λ y. Opened x.kind y l.page c.args.self.now.page) (sym e) s.page)
+    (subst (λ y. Admitted y b) (sym e) k.fits) (k.values ∙ ap (λ y. needed y b) (sym e)) k.room
+    (subst (λ y. length (plains y.width l.page.values) ≤ 4095) (sym e) (not_due_light x a l.page s.page.well k.waits))) in
     batch_stood x g.S.PageStore.meaning g.S.PageSink.meaning o l b c.args.self.now s c.args.scratch.now c.in_ok-intake.intake c.write_mini_batch.new.self c.settle.result c.settle.new.self c.settle.new.scratch t
     (c.settle.ensures o (Rattle.ledger.specs.Ledger.adds l (taken (layout x) b)) (more_stands x g.S.PageStore.meaning g.S.PageSink.meaning o l b c.args.self.now s (taken (layout x) b) c.write_mini_batch.new.self w))

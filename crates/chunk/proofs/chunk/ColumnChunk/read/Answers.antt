@@ -46,10 +46,10 @@ returns g c = λ o l s.
     let r = c.read_page-counts.result in
     let bs = take c.in_ok-size.size c.copy_page.new.room in
     let h : PageRead x.levels x.body (layout x) (levels p) (bytes x p) ro dn po ro' dn' po' (byte_count r) =
-      subst (λ y. PageRead x.levels x.body (layout x) (levels p) y ro dn po ro' dn' po' (byte_count r)) page
-      (subst (λ y. PageRead x.levels x.body (layout x) y bs ro dn po ro' dn' po' (byte_count r)) lv
-      (subst (λ y. PageRead x.levels x.body y c.in_ok-entry.entry.levels bs ro dn po ro' dn' po' (byte_count r)) lay c.read_page-counts.ensures.read)) in
+    subst (λ y. PageRead x.levels x.body (layout x) (levels p) y ro dn po ro' dn' po' (byte_count r)) page
+    (subst (λ y. PageRead x.levels x.body (layout x) y bs ro dn po ro' dn' po' (byte_count r)) lv
+    (subst (λ y. PageRead x.levels x.body y c.in_ok-entry.entry.levels bs ro dn po ro' dn' po' (byte_count r)) lay c.read_page-counts.ensures.read)) in
     let t : Counted (layout x) (levels p) dn' r =
-      subst (λ y. Counted (layout x) y dn' r) lv (subst (λ y. Counted y c.in_ok-entry.entry.levels dn' r) lay c.read_page-counts.ensures.counts) in
+    subst (λ y. Counted (layout x) y dn' r) lv (subst (λ y. Counted y c.in_ok-entry.entry.levels dn' r) lay c.read_page-counts.ensures.counts) in
     let b = read_back x p (s.written (omega (arith, e.0))) s.page.allowed well ro dn po ro' dn' po' r c.ok_or.result h t c.ok_or.ensures.value in
     read_there x l k ro dn po c.ok_or.result ro' dn' po' e.0 b.0 b.1 b.2 b.3
