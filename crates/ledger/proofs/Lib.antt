@@ -1,3 +1,5 @@
 pub mod Joining
 pub mod Enclosing
 pub mod Ordering
+pub mod ChunkLaws
+pub mod Runs

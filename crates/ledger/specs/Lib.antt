@@ -7,3 +7,5 @@ pub mod Entries
 pub mod Records
 pub mod Answers
 pub mod Laws
+pub mod ChunkLaws
+pub mod Runs

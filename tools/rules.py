@@ -1,0 +1,127 @@
+#!/usr/bin/env python3
+"""Checks docs/ledger.md against docs/RULES.md and the definitions: `python3 tools/rules.py`, at the top of the repository.
+
+Each row names a section of docs/RULES.md, words that must stand there, and definitions that must exist. Every public definition of
+the ledger's crates must be named. The refusals' numbers, layers and positions, and the order in which calls test for them, are read
+off the definitions and compared with section 9. It prints what fails and ends with status 1, or says how much it checked.
+"""
+import os
+import re
+import sys
+
+CRATES = ["refusals", "columns", "ledger", "intake", "metrics"]
+DEFINES = r"(?m)^(?:abbrev )?pub (?:record |data )?%s(?= |$)"
+errors = []
+
+
+def read(*path):
+    with open(os.path.join(*path), encoding="utf-8") as f:
+        return f.read()
+
+
+def flat(text):
+    return re.sub(r"\s+", " ", text)
+
+
+def need(holds, what):
+    if not holds:
+        errors.append(what)
+
+
+def specs(crate):
+    folder = os.path.join("crates", crate, "specs")
+    return [f[:-5] for f in sorted(os.listdir(folder)) if f.endswith(".antt") and f != "Lib.antt"]
+
+
+def defined(crate, file, name):
+    if file == "src":
+        folder = os.path.join("crates", crate, "src")
+        return any(re.search(rf"\bpub (struct|enum|trait|fn) {name}\b", read(folder, f)) for f in os.listdir(folder))
+    path = os.path.join("crates", crate, "specs", file + ".antt")
+    return os.path.exists(path) and re.search(DEFINES % re.escape(name), read(path))
+
+
+def body(crate, file, name):
+    """The text of a definition: its clauses, up to the next blank line or declaration."""
+    return "\n".join(re.findall(rf"(?m)^{name} [^\n]*(?:\n [^\n]*)*", read("crates", crate, "specs", file + ".antt")))
+
+
+def sections():
+    parts = re.split(r"(?m)^## (\d+)\. ", read("docs", "RULES.md"))
+    return {int(n): flat(text) for n, text in zip(parts[1::2], parts[2::2])}
+
+
+def rows(rules):
+    named, count = set(), 0
+    for line in read("docs", "ledger.md").splitlines():
+        if not line.startswith("| ") or "::" not in line and "*the chunk*" not in line:
+            continue
+        cells = [c.strip().replace(r"\|", "|") for c in re.split(r"(?<!\\)\|", line)[1:-1]]
+        where = cells[2] if cells[0].isdigit() else cells[0]
+        if cells[0].isdigit():
+            count += 1
+            need(cells[1] in rules.get(int(cells[0]), ""), f"section {cells[0]} does not say: {cells[1]}")
+        for crate, file, name in re.findall(r"`(\w+)::(\w+)::(\w+)`", where):
+            need(defined(crate, file, name), f"no such definition: {crate}::{file}::{name}")
+            named.add((crate, file, name))
+        need("`" in where or where == "*the chunk*", f"no definition: {line}")
+    for crate in CRATES:
+        for file in specs(crate):
+            for name in re.findall(DEFINES % r"(?!mod )(\S+)", read("crates", crate, "specs", file + ".antt")):
+                need((crate, file, name) in named, f"not in docs/ledger.md: {crate}::{file}::{name}")
+    return count, len(named)
+
+
+def refusals(rules):
+    """The numbers of the faults, by name, as the three definitions have them; and the same against the table of section 9."""
+    said, numbers = {}, {}
+    for crate, name, layer in [("refusals", "said_chunk", "chunk"), ("pages", "said_page", "page"), ("sinks", "said", "sink")]:
+        for fault, number, rest in re.findall(rf"(?m)^{name} \(?(\w+)[^=]*= by_\w+ (\d+) ?(.*)", read("crates", crate, "specs", "Refusals.antt")):
+            numbers[fault] = int(number)
+            said[int(number)] = (layer, rest.strip() == "at")
+    table = {int(n): (layer, bool(at)) for n, layer, at in re.findall(r"\| (\d+) \| (\w+) \| [^|]*\| ([^|]*?) ?(?=\|)", rules[9])}
+    need(said == table, f"the refusals differ: {sorted(set(said.items()) ^ set(table.items()))}")
+    return numbers
+
+
+def order(rules, numbers):
+    """The order of tests, read off the definitions, against the last paragraph of section 9."""
+    def tests(crate, file, name):
+        found = []
+        for word in re.findall(r"\b\w+\b", body(crate, file, name)):
+            if word in numbers and numbers[word] not in found:
+                found.append(numbers[word])
+            elif word in ("intake_tests", "level_tests", "value_tests") and word != name:
+                found += [n for n in tests("ledger", "Batches", word) if n not in found]
+        return found
+
+    names = dict(numbers, OfPage=None, ColumnFault=1, SettingsFault=2)
+    numbers = {k: v for k, v in names.items() if v}
+    said = {
+        "`check`": tests("columns", "Columns", "checked"),
+        "`batch`": tests("ledger", "Answers", "batch_tests"),
+        "`cut` and `close`": tests("ledger", "Answers", "end_tests"),
+        "not empty": tests("ledger", "Answers", "write_tests"),
+        "`read`": tests("ledger", "Answers", "read_answer"),
+        "`entry`": tests("ledger", "Answers", "entry_answer"),
+        "`record`": tests("ledger", "Answers", "record_answer"),
+    }
+    text = rules[9][rules[9].index("The order in which"):]
+    for call, wanted in said.items():
+        m = re.search(re.escape(call) + r" ([\d, ]+)", text)
+        need(m and [int(n) for n in re.findall(r"\d+", m[1])] == wanted, f"{call} tests {wanted}, and docs/RULES.md has {m and m[1]}")
+
+
+def main():
+    rules = sections()
+    count, names = rows(rules)
+    order(rules, refusals(rules))
+    for error in errors:
+        print(error)
+    if errors:
+        sys.exit(1)
+    print(f"{count} rules, {names} definitions: all found")
+
+
+if __name__ == "__main__":
+    main()
