@@ -19,6 +19,7 @@ use Rattle.open_page.specs.Opened.{Opened}
 use Rattle.open_page.specs.declared.page.OpenPage.{OpenPage}
 use Rattle.chunk.specs.Stands.{Before, Stands, Settled, Batched}
 use Rattle.chunk.specs.declared.chunk.ColumnChunk.{ColumnChunk}
+use Rattle.chunk.proofs.Ending.{not_both}
 use Rattle.chunk.proofs.Tests.{levels_test}
 
 -- what is known of a batch that is not refused
@@ -51,8 +52,8 @@ module _ {K L B S : Type 0} (x : Context) (m : StoreMeaning S) (w : SinkMeaning 
   })
 
   -- with more on its open page the chunk stands to the ledger that has more there
-  pub more_stands : (p : Page) (page : OpenPage) → Opened x.kind (layout x) (join l.page p) page → Stands x m w o (adds l p) (record c { page = page })
-  more_stands p page h = record {
+  pub more_stands : (p : Page) (page : OpenPage) → is_open l.phase ≡ true → Opened x.kind (layout x) (join l.page p) page → Stands x m w o (adds l p) (record c { page = page })
+  more_stands p page begun h = record {
     sound = st.sound;
     offsets = st.offsets;
     pages_behind = st.pages_behind;
@@ -67,6 +68,7 @@ module _ {K L B S : Type 0} (x : Context) (m : StoreMeaning S) (w : SinkMeaning 
     page = h;
     log = st.log;
     written = st.written;
+    ended = λ h. absurd (not_both l.phase begun h);
   }
 
   pub batch_stood : (s : List ℕ) (i : Intake) (page : OpenPage) (r : BatchDone) (c' : ColumnChunk K L B S) (s' : List ℕ)

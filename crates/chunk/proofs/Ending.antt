@@ -5,11 +5,13 @@ use Rattle.sinks.specs.Stores.{StoreMeaning}
 use Rattle.sinks.specs.Sinks.{SinkMeaning}
 use Rattle.refusals.specs.Refusals.{tested}
 use Rattle.refusals.specs.declared.fault.ChunkFault.{ChunkFault}
-use Rattle.ledger.specs.Context.{Context, due, accepted}
-use Rattle.ledger.specs.Ledger.{Ledger, is_open, turned, shut}
+use Rattle.ledger.specs.Pages.{blank}
+use Rattle.ledger.specs.Context.{Context, layout, due, accepted}
+use Rattle.ledger.specs.Ledger.{Ledger, is_open, has_record, turned, shut}
 use Rattle.ledger.specs.Answers.{end_tests, written, done, end_answer}
 use Rattle.ledger.specs.declared.phase.Phase.{Phase}
 use Rattle.ledger.specs.declared.phase.Phase.TheVariants.{Open, Closed, Refused}
+use Rattle.ledger.proofs.Runs.{ended_blank}
 use Rattle.intake.proofs.Tested.{tested_err, tested_ok, passed_from_ok}
 use Rattle.chunk.specs.Stands.{Before, Stands, Wrote, Settled, CutBy, ClosedBy, is_accepted}
 use Rattle.chunk.specs.declared.chunk.ColumnChunk.{ColumnChunk}
@@ -23,6 +25,12 @@ open_accepted Refused b h e = absurd (true≢false (sym h))
 turned_phase : (n : ℕ) (l : Ledger) → (turned n l).phase ≡ l.phase
 turned_phase zero l = refl
 turned_phase (suc n) l = refl
+
+-- an open chunk has no record
+pub not_both : (f : Phase) → is_open f ≡ true → has_record f ≡ true → ⊥
+not_both Open h e = absurd (true≢false (sym e))
+not_both Closed h e = absurd (true≢false (sym h))
+not_both Refused h e = absurd (true≢false (sym h))
 
 -- ---- cut and close
 
@@ -53,8 +61,8 @@ module _ {K L B S : Type 0} (x : Context) (m : StoreMeaning S) (w : SinkMeaning 
   open_from : (s : List ℕ) (n : ℕ) → Ok n ≡ end_answer x (w.takes c.sink) (length s) l → is_open l.phase ≡ true
   open_from s n h = not-false (is_open l.phase) (passed_from_ok (end_tests l (length s)) (written x (w.takes c.sink) l) n (sym h)).0
 
-  shut_stands : (n : ℕ) (c' : ColumnChunk K L B S) → is_open l.phase ≡ true → Stands x m w o (turned n l) c' → Stands x m w o (shut (turned n l)) (record c' { phase = Closed })
-  shut_stands n c' h st = record {
+  shut_stands : (n : ℕ) (c' : ColumnChunk K L B S) → is_open l.phase ≡ true → (turned n l).page ≡ blank → Stands x m w o (turned n l) c' → Stands x m w o (shut (turned n l)) (record c' { phase = Closed })
+  shut_stands n c' h none st = record {
     sound = st.sound;
     offsets = st.offsets;
     pages_behind = st.pages_behind;
@@ -69,12 +77,13 @@ module _ {K L B S : Type 0} (x : Context) (m : StoreMeaning S) (w : SinkMeaning 
     page = st.page;
     log = st.log;
     written = st.written;
+    ended = λ _. none;
   }
 
-  pub closed_after : (s : List ℕ) (n : ℕ) (c' : ColumnChunk K L B S) (s' : List ℕ) → CutBy x m w o l c s (Ok n) c' s' → ClosedBy x m w o l c s (Ok n) (record c' { phase = Closed }) s'
-  closed_after s n c' s' by = record {
+  pub closed_after : (s : List ℕ) (n : ℕ) (c' : ColumnChunk K L B S) (s' : List ℕ) → Stands x m w o l c → CutBy x m w o l c s (Ok n) c' s' → ClosedBy x m w o l c s (Ok n) (record c' { phase = Closed }) s'
+  closed_after s n c' s' st by = record {
     answer = by.answer;
-    left = record { stands = shut_stands n c' (open_from s n by.answer) by.left.stands; scratch = by.left.scratch; untouched = by.left.untouched };
+    left = record { stands = shut_stands n c' (open_from s n by.answer) (ended_blank x (w.takes c.sink) (length s) l (layout x).max_def_level n st.page.well.paired st.page.well.counted (sym by.answer)) by.left.stands; scratch = by.left.scratch; untouched = by.left.untouched };
     kept = tt;
   }
 

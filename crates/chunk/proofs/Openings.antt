@@ -12,7 +12,8 @@ use Rattle.ledger.specs.Context.{Context, accepted}
 use Rattle.ledger.specs.declared.phase.Phase.{Phase}
 use Rattle.ledger.specs.declared.phase.Phase.TheVariants.{Open, Refused}
 use Rattle.page_log.specs.Logs.{context}
-use Rattle.chunk.specs.Stands.{begins, is_accepted}
+use Rattle.ledger.specs.Runs.{opening}
+use Rattle.chunk.specs.Stands.{is_accepted}
 
 abbrev pub phase_by : Result Unit ChunkFault → Phase
 phase_by (Ok u) = Open
@@ -23,10 +24,10 @@ phase_by_both true true d e = refl
 phase_by_both true false d e = refl
 phase_by_both false g d e = refl
 
-pub begins_by : (m : Meaning) (c : Coding) (b : Body) (col : Column) (set : Settings) → phase_by (checked m c b col set) ≡ begins (context m c b col set)
+pub begins_by : (m : Meaning) (c : Coding) (b : Body) (col : Column) (set : Settings) → phase_by (checked m c b col set) ≡ opening (context m c b col set)
 begins_by m c b col set = phase_by_both (column_fits m col) (settings_fit c b col set) ColumnFault SettingsFault
 
-pub accepted_begins : (x : Context) → is_accepted (begins x) ≡ accepted x
+pub accepted_begins : (x : Context) → is_accepted (opening x) ≡ accepted x
 accepted_begins x = by_bool (accepted x)
   where
     by_bool : (b : Bool) → is_accepted (cond b Open Refused) ≡ b

@@ -61,6 +61,7 @@ module _ {K L B S : Type 0} (x : Context) (m : StoreMeaning S) (w : SinkMeaning 
         phase = s.phase;
         allowed = s.allowed;
         written = λ _. ok;
+        ended = λ _. refl;
         page = fresh;
         log = logged;
       };

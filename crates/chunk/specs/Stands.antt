@@ -7,10 +7,10 @@ use Rattle.sinks.specs.Stores.{StoreMeaning}
 use Rattle.sinks.specs.Sinks.{SinkMeaning, Grown}
 use Rattle.refusals.specs.declared.done.BatchDone.{BatchDone}
 use Rattle.refusals.specs.declared.fault.ChunkFault.{ChunkFault}
-use Rattle.ledger.specs.Pages.{Page, join}
+use Rattle.ledger.specs.Pages.{Page, blank, join}
 use Rattle.ledger.specs.Batches.{Batch, taken}
 use Rattle.ledger.specs.Context.{Context, layout, bytes, due, accepted}
-use Rattle.ledger.specs.Ledger.{Ledger, turned, fed_batch, fed_cut, fed_close}
+use Rattle.ledger.specs.Ledger.{Ledger, has_record, turned, fed_batch, fed_cut, fed_close}
 use Rattle.ledger.specs.Answers.{written, done, end_answer, batch_answer}
 use Rattle.ledger.specs.declared.phase.Phase.{Phase}
 use Rattle.ledger.specs.declared.phase.Phase.TheVariants.{Open, Closed, Refused}
@@ -25,10 +25,6 @@ pub record Before : Type 0 where
 
 abbrev pub held : {S : Type 0} → StoreMeaning S → S → Before
 held m s = record { pages = m.pages s; offsets = m.offsets s }
-
--- a chunk is open once it is opened, or refused
-abbrev pub begins : Context → Phase
-begins x = cond (accepted x) Open Refused
 
 -- a phase that only an accepted opening leads to
 abbrev pub is_accepted : Phase → Bool
@@ -51,6 +47,7 @@ pub record Stands {K L B S : Type 0} (x : Context) (m : StoreMeaning S) (w : Sin
   pub phase : c.phase ≡ l.phase
   pub allowed : is_accepted l.phase ≡ accepted x
   pub written : 0 < length l.pages → accepted x ≡ true
+  pub ended : has_record l.phase ≡ true → l.page ≡ blank
   pub page : Opened x.kind (layout x) l.page c.page
   pub log : Logged x offsets l.pages c.log
 

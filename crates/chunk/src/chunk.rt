@@ -1,8 +1,8 @@
 ghost use Rattle.std.specs.Prelude.{◌≡◌};
 ghost use Rattle.columns.specs.Columns.{layout_of};
-ghost use Rattle.ledger.specs.Ledger.{fresh};
+ghost use Rattle.ledger.specs.Runs.{opening, opened};
 ghost use Rattle.page_log.specs.Logs.{context};
-ghost use Rattle.chunk.specs.Stands.{held, begins, Stands};
+ghost use Rattle.chunk.specs.Stands.{held, Stands};
 
 use body_coder::BodyCoder;
 use columns::{Column, Settings, check, layout};
@@ -35,7 +35,7 @@ impl<K: Kind, L: LevelCoder, B: BodyCoder, S: PageSink> ColumnChunk<K, L, B, S> 
     // A chunk without pages. With a column or settings that are not allowed it is closed, and has no record.
     pub fn open(column: Column, settings: Settings, sink: S) -> ColumnChunk<K, L, B, S>
         ensures holds { result.sink ≡ sink }
-        ensures stands { S.PageSink.meaning.sound sink → Stands (context K.Kind.meaning L.LevelCoder.coding B.BodyCoder.body column settings) S.PageStore.meaning S.PageSink.meaning (held S.PageStore.meaning sink) (fresh (begins (context K.Kind.meaning L.LevelCoder.coding B.BodyCoder.body column settings))) result }
+        ensures stands { S.PageSink.meaning.sound sink → Stands (context K.Kind.meaning L.LevelCoder.coding B.BodyCoder.body column settings) S.PageStore.meaning S.PageSink.meaning (held S.PageStore.meaning sink) (opened (context K.Kind.meaning L.LevelCoder.coding B.BodyCoder.body column settings)) result }
     {
         let layout = layout(column, settings);
         let base = sink.count();
@@ -47,7 +47,7 @@ impl<K: Kind, L: LevelCoder, B: BodyCoder, S: PageSink> ColumnChunk<K, L, B, S> 
             settings,
             sink,
             base,
-            phase: opening::<K, L, B>(column, settings),
+            phase: open_phase::<K, L, B>(column, settings),
             page: OpenPage::new::<K>(layout),
             log: PageLog::new(layout),
         }
@@ -62,8 +62,8 @@ impl<K: Kind, L: LevelCoder, B: BodyCoder, S: PageSink> ColumnChunk<K, L, B, S> 
 }
 
 // The phase that a chunk opens in.
-fn opening<K: Kind, L: LevelCoder, B: BodyCoder>(column: Column, settings: Settings) -> Phase
-    ensures { result ≡ begins (context K.Kind.meaning L.LevelCoder.coding B.BodyCoder.body column settings) }
+fn open_phase<K: Kind, L: LevelCoder, B: BodyCoder>(column: Column, settings: Settings) -> Phase
+    ensures { result ≡ opening (context K.Kind.meaning L.LevelCoder.coding B.BodyCoder.body column settings) }
 {
     match check::<K, L, B>(column, settings) {
         Ok(()) => Phase::Open,

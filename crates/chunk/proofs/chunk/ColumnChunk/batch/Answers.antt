@@ -35,4 +35,4 @@ returns g c = λ o l s.
     (subst (λ y. Admitted y b) (sym e) k.fits) (k.values ∙ ap (λ y. needed y b) (sym e)) k.room
     (subst (λ y. length (plains y.width l.page.values) ≤ 4095) (sym e) (not_due_light x a l.page s.page.well k.waits))) in
     batch_stood x g.S.PageStore.meaning g.S.PageSink.meaning o l b c.args.self.now s c.args.scratch.now c.in_ok-intake.intake c.write_mini_batch.new.self c.settle.result c.settle.new.self c.settle.new.scratch t
-    (c.settle.ensures o (Rattle.ledger.specs.Ledger.adds l (taken (layout x) b)) (more_stands x g.S.PageStore.meaning g.S.PageSink.meaning o l b c.args.self.now s (taken (layout x) b) c.write_mini_batch.new.self w))
+    (c.settle.ensures o (Rattle.ledger.specs.Ledger.adds l (taken (layout x) b)) (more_stands x g.S.PageStore.meaning g.S.PageSink.meaning o l b c.args.self.now s (taken (layout x) b) c.write_mini_batch.new.self k.begun w))

@@ -15,4 +15,4 @@ returns-in_err-pages g c = λ o l s.
 pub returns : goal.returns
 returns g c = λ o l s.
     let x : Context = context_of g.K.Kind.meaning g.L.LevelCoder.coding g.B.BodyCoder.body c.args.self.now in
-    closed_after x g.S.PageStore.meaning g.S.PageSink.meaning o l c.args.self.now c.args.scratch.now c.in_ok-pages.pages c.cut.new.self c.cut.new.scratch (c.in_ok-pages.ensures o l s)
+    closed_after x g.S.PageStore.meaning g.S.PageSink.meaning o l c.args.self.now c.args.scratch.now c.in_ok-pages.pages c.cut.new.self c.cut.new.scratch s (c.in_ok-pages.ensures o l s)
