@@ -6,3 +6,4 @@ pub mod Writing
 pub mod Batching
 pub mod Places
 pub mod Lists
+pub mod Recording

@@ -16,10 +16,12 @@ use Rattle.ledger.specs.Ledger.{Ledger}
 use Rattle.ledger.specs.Entries as ledger
 use Rattle.ledger.specs.Entries.{entry, first_row}
 use Rattle.ledger.specs.Answers.{entry_answer}
+use Rattle.ledger.specs.ChunkLaws.{EntrySays}
+use Rattle.ledger.proofs.ChunkLaws.{entry_says}
 use Rattle.entries.specs.declared.entry.Entry.{Entry}
 use Rattle.entries.specs.Entries.{said_entry}
 use Rattle.chunk.specs.Stands.{Before, Stands}
-use Rattle.chunk.specs.Reads.{answered, offset_of, page_of}
+use Rattle.chunk.specs.Reads.{answered, offset_of, page_of, EnteredBy}
 use Rattle.chunk.specs.declared.chunk.ColumnChunk.{ColumnChunk}
 
 -- ---- lists
@@ -59,13 +61,24 @@ module _ (x : Context) (l : Ledger) (off k : ℕ) where
   some_there None h = cc
   some_there (Some e) h = let z : said_entry e ≡ there = cc in ap (λ y. Ok y) z
 
+  pub entry_made : (q : Result ledger.Entry ChunkFault) → q ≡ entry_answer x l off k → EnteredBy x l off k q
+  entry_made (Ok e) h =
+      let f : (k < length l.pages) × (e ≡ there) =
+        ⊎_elim
+        (λ i. (i, let z : ◌≡◌ {A = Result ledger.Entry ChunkFault} (Ok e) (Ok there) = h ∙ answer_there i in cc))
+        (λ i. let z : ◌≡◌ {A = Result ledger.Entry ChunkFault} (Ok e) (Err (OfPage NoPage)) = h ∙ answer_past i in cc)
+        (cases_lt k (length l.pages)) in
+      record { answer = h; says = subst (EntrySays x l.pages k) (sym f.1) (entry_says x l.pages off k) }
+  entry_made (Err e) h = record { answer = h; says = tt }
+
   pub entry_answered : (r : Option Entry) (q : Result Entry ChunkFault) → q ≡ ok_or r (OfPage NoPage) → (k < length l.pages → option_map said_entry r ≡ Some there) → (length l.pages ≤ k → r ≡ None)
-      → answered said_entry q ≡ entry_answer x l off k
+      → EnteredBy x l off k (answered said_entry q)
   entry_answered r q e here past =
-      ⊎_elim
+      entry_made (answered said_entry q)
+      (⊎_elim
       (λ h. ap (answered said_entry) e ∙ some_there r (here h) ∙ sym (answer_there h))
       (λ h. ap (answered said_entry) (e ∙ ap (λ o. ok_or o (OfPage NoPage)) (past h)) ∙ sym (answer_past h))
-      (cases_lt k (length l.pages))
+      (cases_lt k (length l.pages)))
 
   -- an entry that was answered is that of a page
   pub entry_ok : (e : Entry) → Ok (said_entry e) ≡ entry_answer x l off k → (k < length l.pages) × (said_entry e ≡ there)

@@ -1,11 +1,14 @@
 -- What the three calls that only read a chunk answer, from docs/RULES.md.
-use Rattle.std.specs.Prelude.{◌≡◌, ℕ, ◌+◌, List, length, Ok, Err, Result, slice_index_or}
+use Rattle.std.specs.Prelude.{◌≡◌, ℕ, ◌+◌, List, length, IfOk, Ok, Err, Result, slice_index_or}
 use Rattle.refusals.specs.declared.fault.ChunkFault.{ChunkFault}
 use Rattle.pages.specs.declared.counts.PageCounts.{PageCounts}
-use Rattle.ledger.specs.Pages.{Page, blank}
+use Rattle.ledger.specs.Pages.{Page, blank, joined}
 use Rattle.ledger.specs.Context.{Context, layout, plain_bytes}
-use Rattle.ledger.specs.Ledger.{Ledger}
-use Rattle.ledger.specs.Answers.{levels_read, read_answer, read_into}
+use Rattle.ledger.specs.Ledger.{Ledger, input}
+use Rattle.ledger.specs.Entries.{Entry}
+use Rattle.ledger.specs.Records.{Record}
+use Rattle.ledger.specs.ChunkLaws.{EntrySays, RecordSays}
+use Rattle.ledger.specs.Answers.{levels_read, entry_answer, record_answer, read_answer, read_into}
 use Rattle.chunk.specs.Stands.{Before}
 
 -- an answer as the ledger has it
@@ -19,6 +22,18 @@ offset_of o offsets k = slice_index_or offsets (length o.pages + k) 0
 
 abbrev pub page_of : Ledger → ℕ → Page
 page_of l k = slice_index_or l.pages k blank
+
+-- what the entry of page k answers: the page's, wherever it lies, and what it says of the page
+pub record EnteredBy (x : Context) (l : Ledger) (off k : ℕ) (r : Result Entry ChunkFault) : Type 0 where
+  pub answer : r ≡ entry_answer x l off k
+  pub says : IfOk r (λ e. EntrySays x l.pages k e)
+
+-- what the record answers, and what it says of the pages written, which are then all that was taken
+pub record RecordedBy (x : Context) (l : Ledger) (r : Result Record ChunkFault) : Type 0 where
+  pub answer : r ≡ record_answer x l
+  pub says : IfOk r (λ q. RecordSays x l.pages q)
+  pub joins : IfOk r (λ q. joined l.pages ≡ input l)
+  pub figures : IfOk r (λ q. q.figures ≡ Rattle.ledger.specs.Figures.figures x.kind (layout x) (input l))
 
 -- what reading page k into three lists answers, and what they then hold
 pub record ReadBy (x : Context) (l : Ledger) (k : ℕ) (reps defs plain : List ℕ) (r : Result PageCounts ChunkFault) (reps' defs' plain' : List ℕ) : Type 0 where

@@ -1,11 +1,10 @@
 ghost use Rattle.std.specs.Prelude.{◌≡◌, ℕ, ◌<◌, ◌≤◌, length, take, Some, Ok};
 ghost use Rattle.ledger.specs.Ledger.{Ledger};
 ghost use Rattle.ledger.specs.Context.{bytes};
-ghost use Rattle.ledger.specs.Answers.{entry_answer, record_answer};
 ghost use Rattle.entries.specs.Entries.{said_entry};
 ghost use Rattle.page_log.specs.Records.{said_record};
 ghost use Rattle.chunk.specs.Stands.{Before, Stands, context_of};
-ghost use Rattle.chunk.specs.Reads.{answered, offset_of, page_of, ReadBy};
+ghost use Rattle.chunk.specs.Reads.{answered, offset_of, page_of, EnteredBy, RecordedBy, ReadBy};
 
 use crate::chunk::ColumnChunk;
 use body_coder::BodyCoder;
@@ -20,14 +19,14 @@ use sinks::{PageSink, PageStore};
 impl<K: Kind, L: LevelCoder, B: BodyCoder, S: PageSink> ColumnChunk<K, L, B, S> {
     // The entry of page k.
     pub fn entry(&self, k: usize) -> Result<Entry, ChunkFault>
-        ensures { (o : Before) (l : Ledger) → Stands (context_of K.Kind.meaning L.LevelCoder.coding B.BodyCoder.body self.now) S.PageStore.meaning S.PageSink.meaning o l self.now → answered said_entry result ≡ entry_answer (context_of K.Kind.meaning L.LevelCoder.coding B.BodyCoder.body self.now) l (offset_of o (S.PageStore.meaning.offsets self.now.sink) k) k }
+        ensures { (o : Before) (l : Ledger) → Stands (context_of K.Kind.meaning L.LevelCoder.coding B.BodyCoder.body self.now) S.PageStore.meaning S.PageSink.meaning o l self.now → EnteredBy (context_of K.Kind.meaning L.LevelCoder.coding B.BodyCoder.body self.now) l (offset_of o (S.PageStore.meaning.offsets self.now.sink) k) k (answered said_entry result) }
     {
         self.log.entry(k).ok_or(ChunkFault::Page(PageFault::NoPage))
     }
 
     // The record, once the chunk is closed.
     pub fn record(&self) -> Result<Record, ChunkFault>
-        ensures { (o : Before) (l : Ledger) → Stands (context_of K.Kind.meaning L.LevelCoder.coding B.BodyCoder.body self.now) S.PageStore.meaning S.PageSink.meaning o l self.now → answered said_record result ≡ record_answer (context_of K.Kind.meaning L.LevelCoder.coding B.BodyCoder.body self.now) l }
+        ensures { (o : Before) (l : Ledger) → Stands (context_of K.Kind.meaning L.LevelCoder.coding B.BodyCoder.body self.now) S.PageStore.meaning S.PageSink.meaning o l self.now → RecordedBy (context_of K.Kind.meaning L.LevelCoder.coding B.BodyCoder.body self.now) l (answered said_record result) }
     {
         if !self.phase.has_record() {
             return Err(ChunkFault::NoRecord);

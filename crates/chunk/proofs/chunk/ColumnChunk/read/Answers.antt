@@ -15,13 +15,13 @@ pub returns-in_err-entry : goal.returns-in_err-entry
 returns-in_err-entry g c = λ o l s.
     let x : Context = context_of g.K.Kind.meaning g.L.LevelCoder.coding g.B.BodyCoder.body c.args.self.now in
     let p = err_from_is_err_and c.from_residual.result c.from_residual.ensures.1 in
-    let e = entry_err x l (offset_of o (g.S.PageStore.meaning.offsets c.args.self.now.sink) c.args.k) c.args.k c.in_err-entry.field-0.0 (c.in_err-entry.ensures o l s) in
+    let e = entry_err x l (offset_of o (g.S.PageStore.meaning.offsets c.args.self.now.sink) c.args.k) c.args.k c.in_err-entry.field-0.0 (c.in_err-entry.ensures o l s).answer in
     read_past x l c.args.k c.args.reps.now c.args.defs.now c.args.plain.now c.from_residual.result c.in_err-entry.field-0.0 (p.1 ∙ ap Err p.2) e.1 e.0
 
 pub returns-in_err-size : goal.returns-in_err-size
 returns-in_err-size g c = λ o l s.
     let x : Context = context_of g.K.Kind.meaning g.L.LevelCoder.coding g.B.BodyCoder.body c.args.self.now in
-    let e = entry_ok x l (offset_of o (g.S.PageStore.meaning.offsets c.args.self.now.sink) c.args.k) c.args.k c.in_ok-entry.entry (c.in_ok-entry.ensures o l s) in
+    let e = entry_ok x l (offset_of o (g.S.PageStore.meaning.offsets c.args.self.now.sink) c.args.k) c.args.k c.in_ok-entry.entry (c.in_ok-entry.ensures o l s).answer in
     let f = sym (c.copy_page.ensures.page o l s e.0 (omega arith)).0 ∙ c.in_err-size.was in
     cc
 
@@ -30,7 +30,7 @@ returns g c = λ o l s.
     let x : Context = context_of g.K.Kind.meaning g.L.LevelCoder.coding g.B.BodyCoder.body c.args.self.now in
     let k : ℕ = c.args.k in
     let p : Page = page_of l k in
-    let e = entry_ok x l (offset_of o (g.S.PageStore.meaning.offsets c.args.self.now.sink) k) k c.in_ok-entry.entry (c.in_ok-entry.ensures o l s) in
+    let e = entry_ok x l (offset_of o (g.S.PageStore.meaning.offsets c.args.self.now.sink) k) k c.in_ok-entry.entry (c.in_ok-entry.ensures o l s).answer in
     let copied = c.copy_page.ensures.page o l s e.0 (omega arith) in
     let n : c.in_ok-size.size ≡ length (bytes x p) = let z = sym c.in_ok-size.was ∙ copied.0 in cc in
     let page : take c.in_ok-size.size c.copy_page.new.room ≡ bytes x p = ap (λ i. take i c.copy_page.new.room) n ∙ copied.1 in
