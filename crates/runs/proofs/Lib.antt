@@ -1,1 +1,2 @@
 pub mod Playing
+pub mod Agreeing

@@ -1,8 +1,10 @@
 -- Runs of calls on a chunk, and what holds of a chunk after any of them.
-use Rattle.std.specs.Prelude.{◌≡◌, ℕ, Bool, true, List, [], ◌∷◌, ◌++◌, map, length, Ok, Err, Result}
+use Rattle.std.specs.Prelude.{◌≡◌, ℕ, Bool, true, false, ◌&&◌, List, [], ◌∷◌, ◌++◌, map, length, Ok, Err, Result}
 use Rattle.sinks.specs.Stores.{StoreMeaning}
 use Rattle.sinks.specs.Sinks.{SinkMeaning}
 use Rattle.refusals.specs.declared.fault.ChunkFault.{ChunkFault}
+use Rattle.refusals.specs.declared.fault.ChunkFault.TheVariants.{NoRecord}
+use Rattle.ledger.specs.Laws.{Exactly}
 use Rattle.ledger.specs.Pages.{joined}
 use Rattle.ledger.specs.Context.{Context, layout, bytes}
 use Rattle.ledger.specs.Figures.{figures}
@@ -78,3 +80,18 @@ pub record Ran {K L B S : Type 0} (x : Context) (m : StoreMeaning S) (w : SinkMe
   pub stands : Stands x m w o (ledger_of x cs rs) c
   pub answers : AllFixed x m w o room (opened x) cs rs
   pub says : RunSays x m o cs rs c.sink
+
+-- ---- two chunks
+
+-- what the answer to a comparison of two chunks that have records says: whether the figures of all that each took are the
+-- same, which they are where both took the same, however it was cut into pages
+pub record Compared (x : Context) (l : Ledger) (y : Context) (q : Ledger) (b : Bool) : Type 0 where
+  pub records : (has_record l.phase && has_record q.phase) ≡ true
+  pub exactly : Exactly (b ≡ true) (figures x.kind (layout x) (input l) ≡ figures y.kind (layout y) (input q))
+  -- the law of two runs of one column
+  pub same_input : x.kind ≡ y.kind → x.column ≡ y.column → input l ≡ input q → b ≡ true
+
+-- what comparing two chunks answers: refused exactly if one has no record
+abbrev pub Agreed : Context → Ledger → Context → Ledger → Result Bool ChunkFault → Type 0
+Agreed x l y q (Err e) = (e ≡ NoRecord) × ((has_record l.phase && has_record q.phase) ≡ false)
+Agreed x l y q (Ok b) = Compared x l y q b

@@ -3,8 +3,10 @@
 
 #![tactic(auto)]
 
+mod agreement;
 mod call;
 mod replaying;
 
+pub use agreement::agree;
 pub use call::{Answer, Call, play};
 pub use replaying::{play_all, replay};
