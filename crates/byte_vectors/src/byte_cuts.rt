@@ -66,3 +66,19 @@ fn lengths(rt: HostRuntime) {
         Some(&[0x61, 0x62, 0x64]),
     );
 }
+
+// Cuts at 64, the greatest length that settings have.
+#[test]
+fn longest_cuts(rt: HostRuntime) {
+    bounds::<ByteArray>(&rt, &[0xFF; 128], 64, &[0xFF; 64], None);
+    bounds::<ByteArray>(&rt, &[0xFF; 64], 64, &[0xFF; 64], None);
+    bounds::<FixedLenByteArray>(&rt, &[0xFF; 65], 64, &[0xFF; 64], None);
+    bounds::<ByteArray>(&rt, &[0; 64], 64, &[0; 64], None);
+    bounds::<FixedLenByteArray>(
+        &rt,
+        b"0123456789012345678901234567890123456789012345678901234567890123456789",
+        64,
+        b"0123456789012345678901234567890123456789012345678901234567890123",
+        Some(b"0123456789012345678901234567890123456789012345678901234567890124"),
+    );
+}

@@ -13,7 +13,7 @@ pub fn bounds<K: Kind>(
     let (n, cut) = K::truncate_min_value(value, length);
     assert!(rt; value.get(..n) == Some(lower));
     assert!(rt; cut == (lower.len() < value.len()));
-    let mut room = [0; 8];
+    let mut room = [0; 128];
     assert!(rt; value.len() <= room.len());
     let copy = &mut room[..value.len()];
     copy.copy_from_slice(value);

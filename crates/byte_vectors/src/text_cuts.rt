@@ -112,6 +112,51 @@ fn without_successor(rt: HostRuntime) {
     );
 }
 
+// The last characters of a row of the encoding, whose successor is the first of the next row.
+#[test]
+fn successor_in_the_next_row(rt: HostRuntime) {
+    bounds::<Utf8String>(
+        &rt,
+        &[0xC2, 0xBF, 0x7A],
+        2,
+        &[0xC2, 0xBF],
+        Some(&[0xC3, 0x80]),
+    );
+    bounds::<Utf8String>(
+        &rt,
+        &[0xE0, 0xBF, 0xBF, 0x7A],
+        3,
+        &[0xE0, 0xBF, 0xBF],
+        Some(&[0xE1, 0x80, 0x80]),
+    );
+    bounds::<Utf8String>(
+        &rt,
+        &[0xEF, 0xBF, 0xBE, 0x7A],
+        3,
+        &[0xEF, 0xBF, 0xBE],
+        Some(&[0xEF, 0xBF, 0xBF]),
+    );
+    bounds::<Utf8String>(
+        &rt,
+        &[0xF0, 0x9F, 0xBF, 0xBF, 0x7A],
+        4,
+        &[0xF0, 0x9F, 0xBF, 0xBF],
+        Some(&[0xF0, 0xA0, 0x80, 0x80]),
+    );
+}
+
+// Twenty-two characters of three bytes each: 64 bytes end inside the last of them.
+#[test]
+fn longest_cut(rt: HostRuntime) {
+    bounds::<Utf8String>(
+        &rt,
+        "€€€€€€€€€€€€€€€€€€€€€€".as_bytes(),
+        64,
+        "€€€€€€€€€€€€€€€€€€€€€".as_bytes(),
+        Some("€€€€€€€€€€€€€€€€€€€€₭".as_bytes()),
+    );
+}
+
 #[test]
 fn earlier_character_raised(rt: HostRuntime) {
     bounds::<Utf8String>(&rt, &[0x61, 0x7F, 0x7A], 2, &[0x61, 0x7F], Some(&[0x62]));

@@ -1,7 +1,9 @@
 use byte_kinds::{
     ByteArray, DecimalByteArray, DecimalFixedLenByteArray, FixedLenByteArray, Utf8String,
 };
+use figures::get_min_max;
 use kinds::{Kind, ValueOf, admits_width, plain_size};
+use std::test::Fail;
 
 #[test]
 fn descriptors(rt: HostRuntime) {
@@ -15,7 +17,7 @@ fn descriptors(rt: HostRuntime) {
 // The kind's own number, and that of its physical type.
 fn numbers<K: Kind>() -> (u8, u8) {
     let descriptor = K::descriptor();
-    (descriptor.number, descriptor.physical_type as u8)
+    (descriptor.number, descriptor.physical_type.number())
 }
 
 #[test]
@@ -41,4 +43,25 @@ fn is_sized(width: usize, value: &[u8]) -> bool {
         <&'_ [u8] as ValueOf<FixedLenByteArray>>::as_bytes(&value, &mut room),
     )
     .is_some()
+}
+
+// Of numbers that are equal though their bytes are not, the first is the smallest and the largest.
+#[test]
+fn first_of_equal_numbers(rt: HostRuntime) -> Result<(), Fail> {
+    let values: [&[u8]; 3] = [&[0x00, 0x05], &[0x05], &[0x00, 0x00, 0x05]];
+    let f = get_min_max::<DecimalByteArray, &[u8]>(&values).ok_or("three values have figures")?;
+    assert!(rt; f.min == [0x00, 0x05].as_slice() && f.max == [0x00, 0x05].as_slice());
+    assert!(rt; f.nan_count == 0);
+    let values: [&[u8]; 4] = [&[0x05], &[0x80], &[0xFF, 0x80], &[0x00, 0x05]];
+    let f = get_min_max::<DecimalByteArray, &[u8]>(&values).ok_or("four values have figures")?;
+    assert!(rt; f.min == [0x80].as_slice() && f.max == [0x05].as_slice());
+    Ok(())
+}
+
+#[test]
+fn unsigned_figures(rt: HostRuntime) -> Result<(), Fail> {
+    let values: [&[u8]; 3] = [&[0x7F], &[0x80], &[0x7F, 0x00]];
+    let f = get_min_max::<ByteArray, &[u8]>(&values).ok_or("three values have figures")?;
+    assert!(rt; f.min == [0x7F].as_slice() && f.max == [0x80].as_slice());
+    Ok(())
 }

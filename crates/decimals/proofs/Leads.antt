@@ -1,5 +1,6 @@
 -- Numbers of one sign: bytes ahead that are no sign extension decide, and otherwise the last bytes do.
-use Rattle.std.proofs.Common.{◌≡◌, ◌≢◌, ℕ, min, zero, suc, ◌+◌, ◌-◌, ◌<◌, ◌≤◌, Bool, true, false, not, eqb, ltb, List, [], ◌∷◌, ◌++◌, length, take, drop, replicate, Some, Option, sym, refl, ap, ◌∙◌, ⊎_elim, append_assoc, arith}
+use Rattle.std.proofs.Common.{◌≡◌, ◌≢◌, ℕ, min, zero, suc, ◌+◌, ◌-◌, ◌<◌, ◌≤◌, Bool, true, false, not, eqb, ltb, List, [], ◌∷◌, ◌++◌, length, take, drop, replicate, Some, None, Option, sym, refl, ap, ◌∙◌, ⊎_elim, append_assoc, arith}
+use mathlib.Core.Bool.{beq}
 use Rattle.std.specs.List.{list_all}
 use Rattle.std.specs.Bool.{then_some}
 use Rattle.std.specs.Borrow.{Bor}
@@ -11,7 +12,7 @@ use Rattle.strings.proofs.Orders.{one_way}
 use Rattle.strings.proofs.Numbers.{bytes_take}
 use Rattle.decimals.specs.Extensions.{extension, extended, sign, Unextended}
 use Rattle.decimals.specs.Decimals.{decimal}
-use Rattle.decimals.proofs.Values.{length-extended, signed_of, greater_there, greater_extended}
+use Rattle.decimals.proofs.Values.{length-extended, signed_of, greater_there, greater_extended, other_signs, one_sign}
 
 -- a shared lead does not matter
 same_lead : (k e : ℕ) (a b : List ℕ) → above (replicate k e ++ a) (replicate k e ++ b) ≡ above a b
@@ -94,23 +95,44 @@ module _ (n : Bool) (m : ℕ) (a b : List ℕ) (p : Bytes a) (q : Bytes b) (s : 
   in_bytes : (l : ℕ) → length a ≤ l → length b ≤ l → decimal.greater a b ≡ above (extended l n a) (extended l n b)
   in_bytes l h k = greater_there n n a b s t ∙ greater_extended n l a b p q (signed_of n a p s) (signed_of n b q t) h k
 
-  pub first_decides : ((x : List ℕ) → length x ≡ m → a ≢ extended (length a) n x) → not n ≡ decimal.greater a b
+  first_decides : ((x : List ℕ) → length x ≡ m → a ≢ extended (length a) n x) → not n ≡ decimal.greater a b
   first_decides f =
       let h : length b < length a = longer n m (length b) a e f in
       sym (in_bytes (length a) (omega arith) (omega arith) ∙ ap (λ x. above x (extended (length a) n b)) (sym (extended_self n a))
       ∙ (other_extended n m a b p (omega arith) (omega arith) f).0)
 
-  pub second_decides : ((x : List ℕ) → length x ≡ m → b ≢ extended (length b) n x) → n ≡ decimal.greater a b
+  second_decides : ((x : List ℕ) → length x ≡ m → b ≢ extended (length b) n x) → n ≡ decimal.greater a b
   second_decides f =
       let h : length a < length b = longer n m (length a) b (omega arith) f in
       sym (in_bytes (length b) (omega arith) (omega arith) ∙ ap (λ x. above (extended (length b) n a) x) (sym (extended_self n b))
       ∙ (other_extended n m b a q (omega arith) (omega arith) f).1)
 
-  pub last_decide : (x y : List ℕ) → (length x ≡ m) × (a ≡ extended (length a) n x) → (length y ≡ m) × (b ≡ extended (length b) n y)
+  last_decide : (x y : List ℕ) → (length x ≡ m) × (a ≡ extended (length a) n x) → (length y ≡ m) × (b ≡ extended (length b) n y)
       → above x y ≡ decimal.greater a b
   last_decide x y f g =
       sym (in_bytes (length a + length b) (omega arith) (omega arith)
       ∙ last_above n (length a + length b) m a b x y (omega arith) (omega arith) (omega arith) (omega arith) f.0 g.0 f.1 g.1)
+
+-- so which is greater, by the signs and by what stands ahead of the last m bytes
+module _ (n o : Bool) (a b : List ℕ) (p : Bytes a) (q : Bytes b) (s : Some n ≡ sign a) (t : Some o ≡ sign b) where
+  pub signs_decide : not (beq o n) ≡ true → not n ≡ decimal.greater a b
+  signs_decide d = sym (greater_there n o a b (sym s) (sym t) ∙ other_signs n o a b p q (signed_of n a p (sym s)) (signed_of o b q (sym t)) d)
+
+  module _ (m : ℕ) (d : not (beq o n) ≡ false) (e : m ≡ min (length a) (length b)) where
+    same : sign b ≡ Some n
+    same = sym t ∙ ap Some (one_sign n o d)
+
+    pub first_is_longer : Unextended m n a None → not n ≡ decimal.greater a b
+    first_is_longer f = first_decides n m a b p q (sym s) same e f
+
+    pub second_is_longer : Unextended m n b None → n ≡ decimal.greater a b
+    second_is_longer f = second_decides n m a b p q (sym s) same e f
+
+    pub last_bytes : (x y : List ℕ) → Unextended m n a (Some x) → Unextended m n b (Some y) → above x y ≡ decimal.greater a b
+    last_bytes x y f g = last_decide n m a b p q (sym s) same e x y f g
+
+-- the check finds these two by itself, and has to be shown the others
+pub ruleset decides = (signs_decide, second_is_longer)
 
 -- ---- what the test of the bytes ahead says
 

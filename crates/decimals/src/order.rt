@@ -1,12 +1,14 @@
 ghost use Rattle.std.specs.Prelude.{◌≡◌, ◌≤◌, length, ◌==◌};
 ghost use Rattle.std.specs.List.{list_all};
 ghost use Rattle.std.specs.Option.{option_copied};
+ghost use Rattle.strings.specs.Lexical.{Bytes};
 ghost use Rattle.decimals.specs.Decimals.{decimal};
 ghost use Rattle.decimals.specs.Extensions.{extension, sign, Unextended};
 
 use strings::compare_greater;
 
 // Whether a is greater than b as big-endian two's complement numbers; the empty one is below all others.
+#[tactic(auto, using(crate::proofs::Leads::decides))]
 pub fn compare_greater_byte_array_decimals(a: &[u8], b: &[u8]) -> bool
     ensures { result ≡ decimal.greater a.now b.now }
 {
@@ -32,7 +34,8 @@ pub fn compare_greater_byte_array_decimals(a: &[u8], b: &[u8]) -> bool
 
 // The sign of a number, absent for the empty one.
 fn is_negative(number: &[u8]) -> Option<bool>
-    ensures { result ≡ sign number.now }
+    ensures sign { result ≡ sign number.now }
+    ensures typed { Bytes number.now }
 {
     number.first().map(|first| 0x80 <= *first)
 }

@@ -17,14 +17,14 @@ one_or_none true = omega arith
 one_or_none false = omega arith
 
 -- each of them takes one value more
-pub seen_more : {V : Type 0} (m : Meaning) (bytes : V → List ℕ) (vs : List (List ℕ)) (lo hi lo' hi' : Option V) (n i t : ℕ) (v : List ℕ)
+pub seen_more : {V : Type 0} (m : Meaning) (bytes : V → List ℕ) (vs : List (List ℕ)) (lo hi lo' hi' : Option V) (n n' i : ℕ) (v : List ℕ)
     → Seen m bytes vs lo hi n i → MinUpdated m (option_map bytes lo) v (option_map bytes lo') → MaxUpdated m (option_map bytes hi) v (option_map bytes hi')
-    → t ≡ cond (m.nan v) 1 0 → Seen m bytes (vs ++ v ∷ []) lo' hi' (n + t) (i + 1)
-seen_more m bytes vs lo hi lo' hi' n i t v s min max e = record {
+    → n' ≡ n + cond (m.nan v) 1 0 → Seen m bytes (vs ++ v ∷ []) lo' hi' n' (i + 1)
+seen_more m bytes vs lo hi lo' hi' n n' i v s min max e = record {
   min = min.joined vs (v ∷ []) s.min (sym (smallest_one m v));
   max = max.joined vs (v ∷ []) s.max (sym (largest_one m v));
   nans =
-      ap (λ k. k + t) s.nans ∙ ap (λ k. nan_count_of m vs + k) (e ∙ sym (add-zero (cond (m.nan v) 1 0)))
+      e ∙ ap (λ k. k + cond (m.nan v) 1 0) s.nans ∙ ap (λ k. nan_count_of m vs + k) (sym (add-zero (cond (m.nan v) 1 0)))
       ∙ sym (count-joined m.nan vs (v ∷ []));
   few = omega (arith, s.few, e, one_or_none (m.nan v));
 }

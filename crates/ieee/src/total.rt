@@ -1,4 +1,4 @@
-ghost use Rattle.std.specs.Prelude.{◌≡◌};
+ghost use Rattle.std.specs.Prelude.{◌≡◌, nat_lt};
 ghost use Rattle.ieee.specs.TotalOrder.{above, rank};
 
 use crate::pattern::Pattern;
@@ -16,9 +16,10 @@ fn rank<P: Pattern>(bits: P) -> u64
     }
 }
 
-// Whether the first pattern comes after the second in the total order.
+// Whether the first pattern comes after the second in the total order: it has the greater rank.
 pub fn total_greater<P: Pattern>(a: P, b: P) -> bool
-    ensures { result ≡ above P.format (P.number a) (P.number b) }
+    ensures order { result ≡ above P.format (P.number a) (P.number b) }
+    ensures ranks { result ≡ nat_lt (rank P.format (P.number b)) (rank P.format (P.number a)) }
 {
     rank(a) > rank(b)
 }

@@ -27,7 +27,7 @@ impl ValueOf<UInt32> for u32 {
     ghost bytes = { four };
 
     fn as_bytes<'a>(&'a self, room: &'a mut [u8; 8]) -> &'a [u8] {
-        self.lend(room)
+        u32::lend(*self, room)
     }
 }
 

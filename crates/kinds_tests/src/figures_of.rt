@@ -28,6 +28,9 @@ fn nan_gives_way(rt: HostRuntime) {
     assert_eq!(rt; figures(&[TWO, ONE, NAN]), Some((ONE, TWO, 1)));
     assert_eq!(rt; figures(&[TWO, LOW_NAN, ONE]), Some((ONE, TWO, 1)));
     assert_eq!(rt; figures(&[NAN, LOW_NAN]), Some((LOW_NAN, NAN, 2)));
+    assert_eq!(rt; figures(&[NAN]), Some((NAN, NAN, 1)));
+    assert_eq!(rt; figures(&[ONE]), Some((ONE, ONE, 0)));
+    assert_eq!(rt; figures(&[NAN, NAN, ONE, LOW_NAN]), Some((ONE, ONE, 3)));
     assert_eq!(rt; figures(&[]), None);
 }
 

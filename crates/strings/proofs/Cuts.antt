@@ -1,13 +1,13 @@
 -- The cuts of bytes: their laws over all strings, and that the upper one is refused exactly where no string reaches.
-use Rattle.std.proofs.Common.{◌≡◌, ℕ, zero, suc, ◌+◌, ◌*◌, ◌/◌, ◌%◌, ◌^◌, ◌<◌, ◌≤◌, Bool, true, false, ◌&&◌, ltb, List, [], ◌∷◌, ◌++◌, length, take, drop, sym, refl, Some, None, Option, MatchOption, ap, ◌∙◌, subst, inl, inr, ⊎_elim, mul-le-mul_right, mod-lt, add-mul, div-add-mod', arith}
+use Rattle.std.proofs.Common.{◌≡◌, ℕ, zero, suc, ◌+◌, ◌*◌, ◌/◌, ◌%◌, ◌^◌, ◌<◌, ◌≤◌, true, false, ◌&&◌, ltb, List, [], ◌∷◌, ◌++◌, length, take, drop, sym, refl, ap, ◌∙◌, subst, inl, inr, ⊎_elim, mul-le-mul_right, mod-lt, add-mul, div-add-mod', arith}
 use Rattle.std.proofs.lemmas.Bool.{cases_lt, lt-ltb, le-ltb, cond-true, cond-false, and_from, and_left, and_right, true≢false}
-use Rattle.std.proofs.lemmas.List.{length-take-le, append-nil, take_all, drop_all, take-append-drop}
+use Rattle.std.proofs.lemmas.List.{length-take-le, append-nil, take_all, drop_all}
 use Rattle.kinds.specs.Cuts.{Bound, whole, Shortens, whole_shortens, CutBelow, CutAbove}
 use Rattle.strings.specs.Lexical.{above, Bytes}
 use Rattle.strings.specs.Numbers.{number, digits}
-use Rattle.strings.specs.Cut.{shortened, longer, lower, upper, raised, NoneReaches, Exactly, Incremented}
+use Rattle.strings.specs.Cut.{shortened, longer, lower, upper, raised, NoneReaches, Exactly}
 use Rattle.strings.proofs.Orders.{Above, above_from, above_no, asym, front_below}
-use Rattle.strings.proofs.Numbers.{Full, length_digits, bytes-digits, bytes_take, power_pos, full_or_next, plus_one_digits}
+use Rattle.strings.proofs.Numbers.{Full, length_digits, bytes-digits, power_pos, full_or_next, plus_one_digits}
 
 pub never_above_itself : (v : List ℕ) → above v v ≡ false
 never_above_itself v = above_no v v (λ a. asym v v a a)
@@ -92,11 +92,11 @@ full_refused zero (x ∷ v) (y ∷ s) h f b k = absurd (omega arith)
 full_refused (suc l) (x ∷ v) (y ∷ s) h f b k =
     ⊎_elim (λ q. inl (omega (arith, f.0))) (λ q. inr (omega (arith, f.0, b.0), full_refused l v s (omega arith) f.1 b.1 (omega arith))) (cases_lt y 255)
 
-pub none_reaches : (l : ℕ) (v : List ℕ) → Bytes v → l < length v → 256 ^ l ≤ raised l v → NoneReaches l v
+pub none_reaches : (l : ℕ) (v : List ℕ) → Bytes (take l v) → l < length v → 256 ^ l ≤ raised l v → NoneReaches l v
 none_reaches l v b h k s bs ls =
     ⊎_elim (λ f. above_from v s (full_refused l v s h f bs ls))
     (λ n. absurd (omega (arith, (plus_one_digits (take l v) n.0 n.1).0, ap (λ m. 256 ^ m) (length-take-le l v (omega arith)))))
-    (full_or_next (take l v) (bytes_take l v b))
+    (full_or_next (take l v) b)
 
 pub some_reaches : (l : ℕ) (v : List ℕ) → l < length v → raised l v < 256 ^ l → NoneReaches l v → ⊥
 some_reaches l v h k none =
@@ -109,7 +109,7 @@ exactly_cut l v h k = record {
   short = λ s. absurd (omega arith);
 }
 
-pub exactly_full : (l : ℕ) (v : List ℕ) → Bytes v → l < length v → 256 ^ l ≤ raised l v → Exactly l v false
+pub exactly_full : (l : ℕ) (v : List ℕ) → Bytes (take l v) → l < length v → 256 ^ l ≤ raised l v → Exactly l v false
 exactly_full l v b h k = record { refused = λ _ _. none_reaches l v b h k; needed = λ _ _. refl; short = λ _. refl }
 
 -- ---- what the functions answer
@@ -131,26 +131,11 @@ pub above-cut : (n : ℕ) (v after bs : List ℕ) (b : Bound) → b ≡ shortene
 above-cut n v after bs b e h a =
     subst (λ b. CutAbove b v after (n, true)) (sym e) (record { long = sym h; cut = refl; bound = a ∙ ap (λ k. bs ++ drop k v) (sym h) })
 
--- the front of l bytes was incremented to new
-max_cut : (l : ℕ) (v new : List ℕ) → l < length v → Incremented (take l v) new (Some tt)
-    → CutAbove (upper l v) v (new ++ drop l v) (l, true) × Exactly l v true
-max_cut l v new h i =
-    let n : length (take l v) ≡ l = length-take-le l v (omega arith) in
-    let fits : raised l v < 256 ^ l = omega (arith, i.0, ap (λ m. 256 ^ m) n) in
-    let d : new ≡ digits l (raised l v) = i.1 ∙ ap (λ m. digits m (raised l v)) n in (
-      above-cut l v (new ++ drop l v) (digits l (raised l v)) (upper l v) (upper-cut l v h fits) (length_digits l (raised l v)) (ap (λ t. t ++ drop l v) d),
-      exactly_cut l v h fits,
-    )
+-- the front of l bytes was raised, or could not be
+pub raised_exactly : (l : ℕ) (v : List ℕ) → l < length v → number (take l v) + 1 < 256 ^ length (take l v) → Exactly l v true
+raised_exactly l v h i = exactly_cut l v h (omega (arith, i, ap (λ m. 256 ^ m) (length-take-le l v (omega arith))))
 
-max_full : (l : ℕ) (v new : List ℕ) → Bytes (new ++ drop l v) → l < length v → Incremented (take l v) new None
-    → CutAbove (upper l v) v (new ++ drop l v) (length (new ++ drop l v), false) × Exactly l v false
-max_full l v new b h i =
-    let full : 256 ^ l ≤ raised l v = omega (arith, i.0, ap (λ m. 256 ^ m) (length-take-le l v (omega arith))) in
-    let a : new ++ drop l v ≡ v = ap (λ t. t ++ drop l v) i.1 ∙ take-append-drop l v in
-    (subst (λ w. CutAbove (upper l v) v w (length w, false)) (sym a) (above-whole v v (upper l v) (upper_full l v full) refl), exactly_full l v (subst Bytes a b) h full)
+pub full_exactly : (l : ℕ) (v : List ℕ) → Bytes (take l v) → l < length v → 256 ^ length (take l v) ≤ number (take l v) + 1 → Exactly l v false
+full_exactly l v b h i = exactly_full l v b h (omega (arith, i, ap (λ m. 256 ^ m) (length-take-le l v (omega arith))))
 
--- what the cut answers of it
-pub max_answers : (l : ℕ) (v new : List ℕ) (o : Option (Unit {0})) (r : ℕ × Bool) → Bytes (new ++ drop l v) → l < length v → Incremented (take l v) new o
-    → MatchOption o (r ≡ (length (new ++ drop l v), false)) (λ _. r ≡ (l, true)) → CutAbove (upper l v) v (new ++ drop l v) r × Exactly l v r.1
-max_answers l v new (Some _) r b h i e = rw e (max_cut l v new h i)
-max_answers l v new None r b h i e = rw e (max_full l v new b h i)
+pub ruleset exactly_raised = (raised_exactly, full_exactly)

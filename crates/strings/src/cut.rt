@@ -12,6 +12,7 @@ pub fn truncate_min_value(value: &[u8], length: usize) -> (usize, bool)
 }
 
 // Puts the upper bound of bytes at the length in the value's place: its length, and whether the value was cut.
+#[tactic(auto, using(crate::proofs::Cuts::exactly_raised))]
 pub fn truncate_max_value(value: &mut [u8], length: usize) -> (usize, bool)
     ensures bound { CutAbove (upper length value.old) value.old value.new result }
     ensures exactly { Exactly length value.old result.1 }

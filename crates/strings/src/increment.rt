@@ -5,7 +5,8 @@ ghost use Rattle.strings.specs.Lexical.{Bytes};
 // Adds one to a big-endian number in place. Absent, and nothing changed, where that takes a byte more.
 #[tactic(auto, using(crate::proofs::Numbers::incremented))]
 pub(crate) fn increment(bytes: &mut [u8]) -> Option<()>
-    ensures { Incremented bytes.old bytes.new result }
+    ensures added { Incremented bytes.old bytes.new result }
+    ensures typed { Bytes bytes.old }
 {
     let at = last_below_max(bytes)?;
     raise(bytes, at);

@@ -1,5 +1,5 @@
 -- The cuts of strings: their laws over all strings, that bounds of text are text, and what the functions answer.
-use Rattle.std.proofs.Common.{◌≡◌, ℕ, ◌+◌, ◌<◌, ◌≤◌, Bool, true, false, cond, ltb, List, ◌++◌, length, take, drop, Some, None, IsUtf8, Option, sym, refl, ap, ◌∙◌, subst, ⊎_elim, append_assoc, arith}
+use Rattle.std.proofs.Common.{◌≡◌, ℕ, ◌+◌, ◌<◌, ◌≤◌, Bool, true, false, cond, ltb, List, ◌++◌, length, take, drop, Some, None, Option, sym, refl, ap, ◌∙◌, subst, ⊎_elim, append_assoc, arith}
 use lib.Utf8.{encode, encodes}
 use Rattle.std.specs.Char.{len_utf8}
 use Rattle.std.specs.Option.{MatchOption}
@@ -17,7 +17,7 @@ use Rattle.strings.proofs.Cuts.{never_above_itself, shortens, below_cut, below_w
 use Rattle.texts.specs.Unicode.{Text, is_text}
 use Rattle.texts.specs.Cut.{front, text_lower, raised, raised_bound, text_upper, lower, upper}
 use Rattle.texts.specs.Steps.{FrontOf, RaisedAt}
-use Rattle.texts.proofs.Tables.{utf8_text, utf8_is_text}
+use Rattle.texts.proofs.Tables.{utf8_text}
 use Rattle.texts.proofs.Fronts.{front_few, front_text}
 use Rattle.texts.proofs.Raises.{Parts, raised_parts, parts_above, parts_long, parts_text}
 
@@ -122,16 +122,17 @@ module _ (l : ℕ) (v : List ℕ) where
 
   -- ---- what the functions answer
 
-  pub min_answers : (o : Option ℕ) (r : ℕ × Bool) → l < length v → IsUtf8 v → FrontOf l v o → MatchOption o (r ≡ (length v, false)) (λ n. r ≡ (n, true))
-      → CutBelow (lower l v) v r × (Text v → Text (take r.0 v))
-  min_answers (Some n) r h u f e =
-      let b : lower l v ≡ shortened (take n v) = lower_text h (utf8_is_text v u) ∙ front_cut (omega (arith, f.0, f.1)) ∙ ap (λ k. shortened (take k v)) (sym f.1) in
-      rw e (
-        below_cut n v (lower l v) (omega (arith, f.1, front_few l v)) b,
-        λ _. subst (λ k. Text (take k v)) (sym f.1) (utf8_text (take (front l v) v) (front_text l v)),
-      )
-  min_answers None r h u f e =
-      rw e (below_whole v (lower l v) (lower_text h (utf8_is_text v u) ∙ front-whole (omega (arith, f))), whole_text v)
+  pub min_text : (o : Option ℕ) (r : ℕ × Bool) → FrontOf l v o → MatchOption o (r ≡ (length v, false)) (λ n. r ≡ (n, true)) → Text v → Text (take r.0 v)
+  min_text (Some n) r f e = rw e (λ _. subst (λ k. Text (take k v)) (sym f.1) (utf8_text (take (front l v) v) (front_text l v)))
+  min_text None r f e = rw e (whole_text v)
+
+  pub min_cut : (n : ℕ) → l < length v → true ≡ is_text v → 0 < n → n ≡ front l v → CutBelow (lower l v) v (n, true)
+  min_cut n h t k f =
+      below_cut n v (lower l v) (omega (arith, f, front_few l v))
+      (lower_text h (sym t) ∙ front_cut (omega (arith, k, f)) ∙ ap (λ k. shortened (take k v)) (sym f))
+
+  pub min_whole : l < length v → true ≡ is_text v → front l v ≡ 0 → CutBelow (lower l v) v (length v, false)
+  min_whole h t f = below_whole v (lower l v) (lower_text h (sym t) ∙ front-whole (omega (arith, f)))
 
   -- the raised front is text
   pub raised_text : (at d n : ℕ) (after : List ℕ) → l < length v → RaisedAt (take (front l v) v) (Some (at, d)) → n ≡ at + len_utf8 d
@@ -145,3 +146,5 @@ module _ (l : ℕ) (v : List ℕ) where
       ap (take n) (a ∙ sym (append_assoc (take at v) (encode d) (drop (at + len_utf8 d) v)) ∙ ap (λ x. x ++ drop (at + len_utf8 d) v) (sym q))
       ∙ take_at (encodes r.0) (drop (at + len_utf8 d) v) n k in
       subst Text (sym t) (utf8_text (encodes r.0) (parts_text (take (front l v) v) r.0 w (raised_parts (chars (take (front l v) v)) r.0 r.1)))
+
+pub ruleset min_bound = (min_cut, min_whole)

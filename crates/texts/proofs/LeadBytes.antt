@@ -1,7 +1,6 @@
 -- Lead bytes: what the table says of each, and that the tests of a walk find exactly the characters.
 use Rattle.std.proofs.Common.{◌≡◌, ℕ, zero, suc, ◌+◌, ◌-◌, ◌*◌, ◌<◌, ◌≤◌, Bool, true, false, ◌&&◌, eqb, leb, ◌⊎◌, List, [], ◌∷◌, length, get_or, take, drop, Some, None, IsUtf8, sym, refl, ap, ◌∙◌, subst, inl, inr, ⊎_elim, arith}
 use Rattle.std.specs.Bool.{then_some}
-use Rattle.std.specs.List.{list_all}
 use Rattle.std.specs.Str.{StartsWithNoChar, IsCharBoundary}
 use Rattle.std.proofs.str.Laws.{Follows}
 use Rattle.std.proofs.str.Valid.{of_one, of_two, of_three, of_four, whole}
@@ -243,9 +242,6 @@ module _ (bs ys : List ℕ) (x n : ℕ) (b : bs ≡ x ∷ ys) (e : n ≡ lead_le
 pub empty : (bs : List ℕ) → length bs ≡ 0 → Step bs None
 empty [] h = λ c rest s e. omega (arith, ap length e, length-append (encode c) rest, length-encode c, len_utf8_bounds c)
 empty (x ∷ bs) h = absurd (omega arith)
-
-pub fits_more : (x y : ℕ) (bs ys : List ℕ) (r : Bool) → bs ≡ y ∷ ys → second x y ≡ true → r ≡ list_all follower ys → r ≡ fits x bs
-fits_more x y bs ys r b e f = f ∙ sym (ap (λ t. t && list_all follower ys) e) ∙ sym (ap (fits x) b)
 
 -- ---- the rule of the table, by the rows of the standard's
 

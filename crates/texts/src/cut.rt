@@ -9,6 +9,7 @@ use crate::leads::is_lead;
 use crate::valid::as_text;
 
 // The lower bound of a string at the length: how long a front of it, and whether that cuts it. A pair, as every kind's cuts answer.
+#[tactic(auto, using(crate::proofs::Cuts::min_bound))]
 pub fn truncate_min_value(value: &[u8], length: usize) -> (usize, bool)
     ensures bound { CutBelow (lower length value.now) value.now result }
     ensures text { Text value.now → Text (take result.0 value.now) }
@@ -50,6 +51,7 @@ fn truncate_and_increment_utf8(text: &str, length: usize) -> Option<(usize, char
 }
 
 // The last character boundary from 1 up to the length.
+#[tactic(auto, using(crate::proofs::Boundaries::boundary_front))]
 fn last_boundary(text: &str, length: usize) -> Option<usize>
     requires { length < long text.now }
     ensures { FrontOf length text.now result }

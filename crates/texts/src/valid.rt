@@ -1,6 +1,7 @@
 ghost use Rattle.std.specs.Prelude.{◌≡◌};
+ghost use Rattle.std.specs.List.{list_all};
 ghost use Rattle.std.specs.Option.{option_copied};
-ghost use Rattle.texts.specs.Leads.{fits};
+ghost use Rattle.texts.specs.Leads.{fits, follower};
 ghost use Rattle.texts.specs.Steps.{Step, Valid, AsText};
 
 use crate::leads::{follows, lead_length, second_fits};
@@ -45,5 +46,12 @@ fn others_fit(lead: u8, others: &[u8]) -> bool
     let Some((second, rest)) = others.split_first() else {
         return true;
     };
-    second_fits(lead, *second) && rest.iter().all(|byte| follows(*byte))
+    second_fits(lead, *second) && all_follow(rest)
+}
+
+// Whether each byte may come third or fourth.
+fn all_follow(bytes: &[u8]) -> bool
+    ensures { result ≡ list_all follower bytes.now }
+{
+    bytes.iter().all(|byte| follows(*byte))
 }

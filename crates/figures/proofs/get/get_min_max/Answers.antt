@@ -1,4 +1,4 @@
-use Rattle.std.proofs.Common.{[], ◌∷◌, ◌++◌, take, sym, ap, ◌∙◌, rules, arith}
+use Rattle.std.proofs.Common.{[], ◌∷◌, ◌++◌, take, sym, ap, ◌∙◌, arith}
 use Rattle.std.specs.Option.{option_map}
 use Rattle.std.proofs.lemmas.List.{take_all, take_more, map-append}
 use Rattle.figures.proofs.Joined.{smallest-none, largest-none}
@@ -12,7 +12,7 @@ loop-value-preserved g c =
     let x = c.value-item.result in
     let more = take_more xs i x (omega arith) ∙ ap (λ y. take i xs ++ y ∷ []) (sym c.value-item.is) in
     rw (more, map-append g.V.ValueOf.bytes (take i xs) (x ∷ []))
-    (seen_more g.K.Kind.meaning g.V.ValueOf.bytes _ _ _ _ _ _ _ _ _ c.loop-value.invariant c.update_min.ensures c.update_max.ensures (search rules))
+    (seen_more g.K.Kind.meaning g.V.ValueOf.bytes _ _ _ _ _ _ _ _ _ c.loop-value.invariant c.update_all.ensures.min c.update_all.ensures.max c.update_all.ensures.nans)
 
 -- only of no value is a figure absent
 pub returns-in_err-min-clause-found : goal.returns-in_err-min-clause-found

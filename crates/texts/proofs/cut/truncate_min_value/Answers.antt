@@ -1,14 +1,10 @@
-use Rattle.std.proofs.Common.{refl, subst, rules}
+use Rattle.std.proofs.Common.{subst, rules}
 use Rattle.texts.specs.Steps.{FrontOf}
-use Rattle.texts.proofs.Tables.{text_utf8}
-use Rattle.texts.proofs.Cuts.{min_answers}
+use Rattle.texts.proofs.Cuts.{min_text}
 use Rattle.texts.proofs.cut.truncate_min_value.Goals as goal
 
-pub returns : goal.returns
-returns c =
-    let v = c.args.value.now in
+pub returns-clause-text : goal.returns-clause-text
+returns-clause-text c =
     let l = c.args.length in
-    let t = c.in-Some.ensures in
-    let f = subst (λ x. FrontOf l x c.last_boundary.result) t.0 c.last_boundary.ensures in
-    let m = min_answers l v c.last_boundary.result c.map_or.result c.if-value-length.false (text_utf8 v (t.1.yes refl)) f (search rules) in
-    record { bound = m.0; text = m.1 }
+    let f = subst (λ x. FrontOf l x c.last_boundary.result) c.in-Some.ensures.0 c.last_boundary.ensures in
+    min_text l c.args.value.now c.last_boundary.result c.map_or.result f (search rules)
