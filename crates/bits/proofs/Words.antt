@@ -2,6 +2,7 @@
 use Rattle.std.proofs.Common.{◌≡◌, ℕ, ◌+◌, ◌-◌, ◌*◌, ◌/◌, ◌%◌, ◌^◌, ◌<◌, ◌≤◌, ◌++◌, sym, ap, ◌∙◌, subst, add_comm, zero-add, zero-mul, arith}
 use lib.Bits.{bit_and, bit_or}
 use lib.Arith.{digits_lt}
+use native.Mathlib.Nat.{pow-le-pow_right}
 use Rattle.std.proofs.lemmas.Nat.{or_shifted, shl_whole, one_shl, and_mask, pow-add, shr_split, shr_below, mod_below, pow_pos}
 use Rattle.bits.specs.declared.order.BitOrder.{BitOrder}
 use Rattle.bits.specs.declared.order.BitOrder.TheVariants.{LeastFirst, MostFirst}
@@ -26,20 +27,36 @@ under n k h =
 pub over : (n k : ℕ) → 0 < n / 2 ^ k → n < 2 ^ k → ⊥
 over n k h l = omega (arith, shr_below n 0 k (subst (λ m. n < 2 ^ m) (sym (zero-add k)) l))
 
--- A number behind the bits held, in either order.
-pub joined-least : (o : BitOrder) (a h v w : ℕ) → o ≡ LeastFirst → a < 2 ^ h → v < 2 ^ w → h + w ≤ 32
-    → (bit_or ((v * 2 ^ h) % 2 ^ 64) a < 2 ^ (h + w)) × (bits_of o (h + w) (bit_or ((v * 2 ^ h) % 2 ^ 64) a) ≡ bits_of o h a ++ bits_of o w v)
-joined-least o a h v w is p q few =
-    let e : bit_or ((v * 2 ^ h) % 2 ^ 64) a ≡ v * 2 ^ h + a = placed v h a w q p (omega arith) in (
-      rw e (subst (λ n. v * 2 ^ h + a < 2 ^ n) (add_comm w h) (placed_lt v h a w q p)),
-      rw (e, is) (join-least h w a v p q),
-    )
+-- What is joined has as many bits as both parts, and each part of what is parted has its own.
+pub joined_low : (a h v w : ℕ) → a < 2 ^ h → v < 2 ^ w → h + w ≤ 32 → bit_or ((v * 2 ^ h) % 2 ^ 64) a < 2 ^ (h + w)
+joined_low a h v w p q few = rw (placed v h a w q p (omega arith)) (subst (λ n. v * 2 ^ h + a < 2 ^ n) (add_comm w h) (placed_lt v h a w q p))
 
-pub joined-most : (o : BitOrder) (a h v w : ℕ) → o ≡ MostFirst → a < 2 ^ h → v < 2 ^ w → h + w ≤ 32
-    → (bit_or ((a * 2 ^ w) % 2 ^ 64) v < 2 ^ (h + w)) × (bits_of o (h + w) (bit_or ((a * 2 ^ w) % 2 ^ 64) v) ≡ bits_of o h a ++ bits_of o w v)
-joined-most o a h v w is p q few =
-    let e : bit_or ((a * 2 ^ w) % 2 ^ 64) v ≡ a * 2 ^ w + v = placed a w v h p q (omega arith) in
-    (rw e (placed_lt a w v h p q), rw (e, is) (join-most h w a v p q))
+pub joined_high : (a h v w : ℕ) → a < 2 ^ h → v < 2 ^ w → h + w ≤ 32 → bit_or ((a * 2 ^ w) % 2 ^ 64) v < 2 ^ (h + w)
+joined_high a h v w p q few = rw (placed a w v h p q (omega arith)) (placed_lt a w v h p q)
+
+pub parted_rest : (a h w : ℕ) → a < 2 ^ h → w ≤ h → a / 2 ^ w < 2 ^ (h - w)
+parted_rest a h w p le =
+    let s : (h - w) + w ≡ h = omega arith in
+    shr_below a (h - w) w (subst (λ n. a < 2 ^ n) (sym s) p)
+
+pub parted_front : (a h w : ℕ) → a < 2 ^ h → w ≤ h → a / 2 ^ (h - w) < 2 ^ w
+parted_front a h w p le =
+    let t : w + (h - w) ≡ h = omega arith in
+    shr_below a w (h - w) (subst (λ n. a < 2 ^ n) (sym t) p)
+
+pub parted_byte : (a h w : ℕ) → a < 2 ^ h → w ≤ h → w ≤ 8 → a / 2 ^ (h - w) < 256
+parted_byte a h w p le narrow =
+    let m : 2 ^ w ≤ 2 ^ 8 = pow-le-pow_right (omega arith) narrow in
+    omega (arith, m, parted_front a h w p le)
+
+-- A number behind the bits held, in either order.
+pub joined_least : (o : BitOrder) (a h v w : ℕ) → o ≡ LeastFirst → a < 2 ^ h → v < 2 ^ w → h + w ≤ 32
+    → bits_of o (h + w) (bit_or ((v * 2 ^ h) % 2 ^ 64) a) ≡ bits_of o h a ++ bits_of o w v
+joined_least o a h v w is p q few = rw (placed v h a w q p (omega arith), is) (join-least h w a v p q)
+
+pub joined_most : (o : BitOrder) (a h v w : ℕ) → o ≡ MostFirst → a < 2 ^ h → v < 2 ^ w → h + w ≤ 32
+    → bits_of o (h + w) (bit_or ((a * 2 ^ w) % 2 ^ 64) v) ≡ bits_of o h a ++ bits_of o w v
+joined_most o a h v w is p q few = rw (placed a w v h p q (omega arith), is) (join-most h w a v p q)
 
 -- The first w of h bits and the others, in either order.
 pub parted_least : (o : BitOrder) (a h w : ℕ) → o ≡ LeastFirst → a < 2 ^ h → w ≤ h → h ≤ 32
@@ -47,10 +64,9 @@ pub parted_least : (o : BitOrder) (a h w : ℕ) → o ≡ LeastFirst → a < 2 ^
     × (bits_of o h a ≡ bits_of o w (bit_and a ((1 * 2 ^ w) % 2 ^ 64 - 1)) ++ bits_of o (h - w) (a / 2 ^ w))
 parted_least o a h w is p le few =
     let e : bit_and a ((1 * 2 ^ w) % 2 ^ 64 - 1) ≡ a % 2 ^ w = masked a w (omega arith) in
-    let s : (h - w) + w ≡ h = omega arith in
     let t : w + (h - w) ≡ h = omega arith in
     let low : a % 2 ^ w < 2 ^ w = mod_below a (2 ^ w) (pow_pos w) in
-    let high : a / 2 ^ w < 2 ^ (h - w) = shr_below a (h - w) w (subst (λ n. a < 2 ^ n) (sym s) p) in (
+    let high : a / 2 ^ w < 2 ^ (h - w) = parted_rest a h w p le in (
       rw e low,
       high,
       rw (e, is) (
@@ -65,7 +81,7 @@ parted_most o a h w is p le few =
     let e : bit_and a ((1 * 2 ^ (h - w)) % 2 ^ 64 - 1) ≡ a % 2 ^ (h - w) = masked a (h - w) (omega arith) in
     let t : w + (h - w) ≡ h = omega arith in
     let low : a % 2 ^ (h - w) < 2 ^ (h - w) = mod_below a (2 ^ (h - w)) (pow_pos (h - w)) in
-    let high : a / 2 ^ (h - w) < 2 ^ w = shr_below a w (h - w) (subst (λ n. a < 2 ^ n) (sym t) p) in (
+    let high : a / 2 ^ (h - w) < 2 ^ w = parted_front a h w p le in (
       high,
       rw e low,
       rw (e, is) (

@@ -6,6 +6,7 @@ use crate::order::BitOrder;
 // Numbers of a few bits each in one word, which holds its first bits where the order says.
 impl BitOrder {
     // The bits of `acc`, of which there are `held`, and behind them the `width` bits of `v`.
+    #[tactic(auto, using(crate::proofs::Words::joined_low, crate::proofs::Words::joined_high, crate::proofs::Words::joined_least, crate::proofs::Words::joined_most))]
     fn join(self, acc: u64, held: u32, v: u8, width: u32) -> u64
         requires few { held + width ≤ 32 }
         requires holds { acc < 2 ^ held }
@@ -21,6 +22,7 @@ impl BitOrder {
     }
 
     // The first `width` of the `held` bits of `acc`, and what is left.
+    #[tactic(auto, using(crate::proofs::Words::parted_rest, crate::proofs::Words::parted_front, crate::proofs::Words::parted_byte, crate::proofs::Words::parted_least, crate::proofs::Words::parted_most))]
     fn part(self, acc: u64, held: u32, width: u32) -> (u8, u64)
         requires few { held ≤ 32 }
         requires narrow { width ≤ 8 }

@@ -26,18 +26,18 @@ listed_unique o b k front ls ms rest tail holds f g l e =
 pub one_byte : (t v : ℕ) → v < 128 → uleb_by (suc t) v ≡ v ∷ []
 one_byte t v h = rw (lt-ltb v 128 h)
 
-pub uleb-one : (v : ℕ) → v < 128 → uleb v ≡ v ∷ []
+pub uleb_one : (v : ℕ) → v < 128 → uleb v ≡ v ∷ []
 unfolding uleb
-uleb-one v h = one_byte 8 v h
+uleb_one v h = one_byte 8 v h
 
-pub uleb-two : (v : ℕ) → 128 ≤ v → v < 16384 → uleb v ≡ (v % 128 + 128) ∷ v / 128 ∷ []
+pub uleb_two : (v : ℕ) → 128 ≤ v → v < 16384 → uleb v ≡ (v % 128 + 128) ∷ v / 128 ∷ []
 unfolding uleb
-uleb-two v h few =
+uleb_two v h few =
     ap (λ t. cond t (v ∷ []) ((v % 128 + 128) ∷ uleb_by 8 (v / 128))) (le-ltb v 128 h)
     ∙ ap (λ l. (v % 128 + 128) ∷ l) (one_byte 7 (v / 128) (omega arith))
 
 pub uleb_short : (v : ℕ) → v < 16384 → length (uleb v) ≤ 2
-uleb_short v few = ⊎_elim (λ h. omega (arith, ap length (uleb-one v h))) (λ h. omega (arith, ap length (uleb-two v h few))) (cases_lt v 128)
+uleb_short v few = ⊎_elim (λ h. omega (arith, ap length (uleb_one v h))) (λ h. omega (arith, ap length (uleb_two v h few))) (cases_lt v 128)
 
 -- the groups hold the levels
 pub room_packed : (n b : ℕ) → n * b ≤ 8 * (groups n * b)

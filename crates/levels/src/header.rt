@@ -39,6 +39,7 @@ impl Header {
     }
 
     // The ULEB128 bytes of a number below 2 ^ 14.
+    #[tactic(auto, using(crate::specs::Laws::uleb_one, crate::specs::Laws::uleb_two))]
     fn uleb128(v: u16) -> Header
         requires { v < 16384 }
         ensures { result ≡ uleb v }

@@ -1,10 +1,10 @@
 -- The layout of a packed sink, from docs/sinks.md.
-use Rattle.std.specs.Prelude.{◌≡◌, ℕ, ◌+◌, ◌≤◌, Bool, true, false, cond, ◌&&◌, List, [], ◌++◌, length, take, drop, codes, nat_le, nat_lt}
+use Rattle.std.specs.Prelude.{◌≡◌, ℕ, ◌+◌, ◌≤◌, Bool, true, false, cond, ◌&&◌, List, [], ◌++◌, length, take, drop, codes, nat_le, nat_lt, set}
 use Rattle.std.specs.List.{flat_map}
 use Rattle.std.specs.List.Sorted.{IsNonDecreasingBy}
 use Rattle.sinks.specs.Sinks.{SinkMeaning}
 use Rattle.sinks.specs.Stores.{StoreMeaning}
-use Rattle.areas.specs.Areas.{allowed, store_of, Tiles, end_of}
+use Rattle.areas.specs.Areas.{allowed, store_of, laid, Tiles, end_of}
 use Rattle.areas.specs.declared.place.Place.{Place}
 use Rattle.packed.specs.declared.sink.PackedSink.{PackedSink}
 
@@ -39,9 +39,16 @@ pub record Sound (s : PackedSink) : Type 0 where
   pub begins : usable s ≡ true → take 4 s.area.now ≡ magic
   pub within : usable s ≡ true → end_in s ≤ length s.area.now
 
+-- a page that is written: its bytes where the pages ended, its place in the table, and no other byte or place changed
+pub record Added (s : PackedSink) (p : List ℕ) (s' : PackedSink) : Type 0 where
+  pub area : s'.area.now ≡ laid s.area.now (end_in s) p
+  pub table : s'.table.now ≡ set s.table.now s.count (record { offset = end_in s; len = length p })
+  pub count : s'.count ≡ s.count + 1
+  pub lent : (s'.area.ghost_name ≡ s.area.ghost_name) × (s'.table.ghost_name ≡ s.table.ghost_name)
+
 -- what a packed sink means to its writer
 abbrev pub packed_sink : SinkMeaning PackedSink
-packed_sink = record { takes = fits_in; sound = Sound }
+packed_sink = record { takes = fits_in; sound = Sound; leaves = Added }
 
 -- an area with PAR1 at its front, or as it was where no sink may use it
 abbrev pub begun : List ℕ → List ℕ

@@ -1,6 +1,6 @@
 ghost use Rattle.std.specs.Prelude.{◌≡◌, true, length};
 ghost use Rattle.sinks.specs.Sinks.{Grown};
-ghost use Rattle.packed.specs.Packing.{packed_sink, packed_store, Sound, fits_in};
+ghost use Rattle.packed.specs.Packing.{packed_sink, packed_store, Sound, Added, end_in, fits_in};
 
 use crate::sink::PackedSink;
 use crate::table::{end, enter};
@@ -16,16 +16,26 @@ impl<'a> PackedSink<'a> {
             && fits(end(self.places()), len, self.area.len())
     }
 
-    // Adds a page that there is room for.
-    fn add(&mut self, page: &[u8]) -> usize
+    // Lays a page down that there is room for, and enters where it lies.
+    fn put(&mut self, page: &[u8]) -> usize
         requires { fits_in self.old (length page.now) ≡ true }
-        ensures { Sound self.old → Grown packed_store packed_sink self.old page.now result self.new }
+        ensures at { result ≡ end_in self.old }
+        ensures added { Added self.old page.now self.new }
     {
         let at = end(self.places());
         enter(self.table, self.count, at, page.len());
         lay(self.area, at, page);
         self.count += 1;
         at
+    }
+
+    // The same, as the sink's meaning has it. It stands apart so that a wrong byte is refused above, by itself.
+    fn add(&mut self, page: &[u8]) -> usize
+        requires { fits_in self.old (length page.now) ≡ true }
+        ensures grown { Sound self.old → Grown packed_store packed_sink self.old page.now result self.new }
+        ensures added { Added self.old page.now self.new }
+    {
+        self.put(page)
     }
 }
 

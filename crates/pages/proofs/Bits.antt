@@ -33,8 +33,8 @@ counted (suc k) n h =
     })
     (cases_lt n (2 ^ k))
 
-pub one-length : (n r : ℕ) → n < 256 → BitLength n r → r ≡ bit_length n
-one-length n r h b =
+pub one_length : (n r : ℕ) → n < 256 → BitLength n r → r ≡ bit_length n
+one_length n r h b =
     let c : BitLength n (bit_length n) = counted 8 n h in
     omega (arith, b.fewest (bit_length n) c.enough, c.fewest r b.enough)
 

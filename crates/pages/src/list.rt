@@ -17,6 +17,7 @@ pub(crate) struct ListForm {
 
 impl ListForm {
     // The bit width of levels up to the maximum.
+    #[tactic(auto, using(crate::proofs::Bits::one_length))]
     fn width(self) -> u32
         ensures { result ≡ bit_length self.max }
     {

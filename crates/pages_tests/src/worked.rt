@@ -54,6 +54,26 @@ fn packed_plain_version_1(rt: HostRuntime) {
 }
 
 #[test]
+fn packed_split_version_1(rt: HostRuntime) {
+    let page = [
+        2, 0, 0, 0, 3, 6, 3, 0, 0, 0, 3, 0x66, 0, 5, 7, 0, 0, 0, 0, 0, 0,
+    ];
+    assert!(rt; makes::<Packed, Split>(LISTS, &page));
+    assert!(rt; gives::<Packed, Split>(LISTS, &page));
+}
+
+#[test]
+fn packed_plain_version_2(rt: HostRuntime) {
+    let layout = Layout {
+        version: 2,
+        ..LISTS
+    };
+    let page = [3, 6, 3, 0x66, 0, 5, 0, 0, 0, 7, 0, 0, 0];
+    assert!(rt; makes::<Packed, Plain>(layout, &page));
+    assert!(rt; gives::<Packed, Plain>(layout, &page));
+}
+
+#[test]
 fn packed_split_version_2(rt: HostRuntime) {
     let layout = Layout {
         version: 2,
@@ -69,6 +89,13 @@ fn legacy_version_1(rt: HostRuntime) {
     let page = [0x60, 0x99, 5, 0, 0, 0, 7, 0, 0, 0];
     assert!(rt; makes::<Legacy, Plain>(LISTS, &page));
     assert!(rt; gives::<Legacy, Plain>(LISTS, &page));
+}
+
+#[test]
+fn legacy_split_version_1(rt: HostRuntime) {
+    let page = [0x60, 0x99, 5, 7, 0, 0, 0, 0, 0, 0];
+    assert!(rt; makes::<Legacy, Split>(LISTS, &page));
+    assert!(rt; gives::<Legacy, Split>(LISTS, &page));
 }
 
 #[test]

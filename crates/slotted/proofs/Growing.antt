@@ -9,7 +9,7 @@ use Rattle.areas.specs.Areas.{part, laid, Tiles, end_of}
 use Rattle.areas.specs.declared.place.Place.{Place}
 use Rattle.areas.proofs.Laying.{length-laid, take-laid, middle_laid, drop-laid}
 use Rattle.areas.proofs.Tiling.{end_push, tiles_push, part_same, pages-more}
-use Rattle.slotted.specs.Slots.{le16, pair_bytes, pair_at, pairs, places, end_in, gap, usable, fits_in, slotted_store, slotted_sink, Sound}
+use Rattle.slotted.specs.Slots.{le16, pair_bytes, pair_at, pairs, places, end_in, gap, usable, fits_in, slotted_store, slotted_sink, Sound, Added}
 use Rattle.slotted.specs.declared.sink.SlottedSink.{SlottedSink}
 
 -- what a page that is taken needs, and how long the area is at most
@@ -43,34 +43,34 @@ pair_from_is xs ys j k o l = ap (λ x. place x (le16 xs (j + 2))) o ∙ ap (plac
 two_bytes : (x : ℕ) → x ≤ 65535 → x % 256 + (x / 256 % 256) * 256 ≡ x
 two_bytes x le = omega arith
 
-module _ (a page b a' : List ℕ) (at n : ℕ) (fits : at + 4 * n + (length page + 4) ≤ length a) (small : length a ≤ 65535)
-    (first : b ≡ laid a at page) (second : a' ≡ laid b (length b - 4 * (n + 1)) (pair_bytes at (length page))) where
-  length_b : length b ≡ length a
-  length_b = ap length first ∙ length-laid a at page (omega arith)
+module _ (a page a' : List ℕ) (at n : ℕ) (fits : at + 4 * n + (length page + 4) ≤ length a) (small : length a ≤ 65535)
+    (is : a' ≡ laid (laid a at page) (length a - 4 * (n + 1)) (pair_bytes at (length page))) where
+  abbrev b : List ℕ
+  b = laid a at page
 
-  second' : a' ≡ laid b (length a - 4 * (n + 1)) (pair_bytes at (length page))
-  second' = second ∙ ap (λ k. laid b (k - 4 * (n + 1)) (pair_bytes at (length page))) length_b
+  length_b : length b ≡ length a
+  length_b = length-laid a at page (omega arith)
 
   pub length_after : length a' ≡ length a
-  length_after = ap length second' ∙ length-laid b (length a - 4 * (n + 1)) (pair_bytes at (length page)) (omega (arith, length_b)) ∙ length_b
+  length_after = ap length is ∙ length-laid b (length a - 4 * (n + 1)) (pair_bytes at (length page)) (omega (arith, length_b)) ∙ length_b
 
   below_slot : take (length a - 4 * (n + 1)) a' ≡ take (length a - 4 * (n + 1)) b
-  below_slot = ap (take (length a - 4 * (n + 1))) second' ∙ take-laid b (length a - 4 * (n + 1)) (pair_bytes at (length page)) (omega (arith, length_b))
+  below_slot = ap (take (length a - 4 * (n + 1))) is ∙ take-laid b (length a - 4 * (n + 1)) (pair_bytes at (length page)) (omega (arith, length_b))
 
   pub before : take at a' ≡ take at a
   before =
       sym (take-take at (length a - 4 * (n + 1)) a' (omega arith)) ∙ ap (take at) below_slot ∙ take-take at (length a - 4 * (n + 1)) b (omega arith)
-      ∙ ap (take at) first ∙ take-laid a at page (omega arith)
+      ∙ take-laid a at page (omega arith)
 
   pub page_there : part a' (record { offset = at; len = length page }) ≡ page
   page_there =
       let q : Place = record { offset = at; len = length page } in
-      part_same a' b (length a - 4 * (n + 1)) q below_slot (omega arith) ∙ ap (λ xs. part xs q) first ∙ middle_laid a at page (omega arith)
+      part_same a' b (length a - 4 * (n + 1)) q below_slot (omega arith) ∙ middle_laid a at page (omega arith)
 
   above : drop (length a - 4 * n) a' ≡ drop (length a - 4 * n) a
   above =
-      ap (drop (length a - 4 * n)) second' ∙ drop-laid b (length a - 4 * (n + 1)) (pair_bytes at (length page)) (omega (arith, length_b)) (length a - 4 * n) (omega arith)
-      ∙ ap (drop (length a - 4 * n)) first ∙ drop-laid a at page (omega arith) (length a - 4 * n) (omega arith)
+      ap (drop (length a - 4 * n)) is ∙ drop-laid b (length a - 4 * (n + 1)) (pair_bytes at (length page)) (omega (arith, length_b)) (length a - 4 * n) (omega arith)
+      ∙ drop-laid a at page (omega arith) (length a - 4 * n) (omega arith)
 
   byte_same : (k : ℕ) → length a - 4 * n ≤ k → get_or a' k 0 ≡ get_or a k 0
   byte_same k le = get_or-same a' a (length a - 4 * n) k above le
@@ -88,7 +88,7 @@ module _ (a page b a' : List ℕ) (at n : ℕ) (fits : at + 4 * n + (length page
   byte_new j k lt e =
       let s = length a - 4 * (n + 1) in
       let bs = pair_bytes at (length page) in
-      ap (λ i. get_or a' i 0) e ∙ ap (λ q. get_or q (s + j) 0) second' ∙ sym (get_or-drop s (laid b s bs) j 0) ∙ sym (get_or-take 4 (drop s (laid b s bs)) j 0 lt)
+      ap (λ i. get_or a' i 0) e ∙ ap (λ q. get_or q (s + j) 0) is ∙ sym (get_or-drop s (laid b s bs) j 0) ∙ sym (get_or-take 4 (drop s (laid b s bs)) j 0 lt)
       ∙ ap (λ q. get_or q j 0) (middle_laid b s bs (omega (arith, length_b)))
 
   number_new : (j x : ℕ) → j + 1 < 4 → x ≤ 65535 → get_or (pair_bytes at (length page)) j 0 ≡ x % 256 → get_or (pair_bytes at (length page)) (j + 1) 0 ≡ x / 256 % 256
@@ -111,25 +111,25 @@ module _ (a page b a' : List ℕ) (at n : ℕ) (fits : at + 4 * n + (length page
       ∙ ap (λ q. map (pair_at a') (range_with_len 0 n) ++ (q ∷ [])) pair_new
       ∙ ap (λ q. q ++ (record { offset = at; len = length page } ∷ [])) (fill_by_all (pair_at a) (map (pair_at a') (range_with_len 0 n)) n (place 0 0) (length-map-range_with_len (pair_at a') 0 n) (λ k lt. get_or-map-range_with_len (pair_at a') 0 n k k (place 0 0) lt (omega arith) ∙ pair_same k lt))
 
-pub grown : (s s' : SlottedSink) (page b : List ℕ) (at : ℕ) → fits_in s (length page) ≡ true → at ≡ end_in s
-    → b ≡ laid s.area.now at page → s'.area.now ≡ laid b (length b - 4 * (s.count + 1)) (pair_bytes at (length page)) → s'.count ≡ s.count + 1
+pub grown : (s s' : SlottedSink) (page : List ℕ) (at : ℕ) → fits_in s (length page) ≡ true → at ≡ end_in s → Added s page s'
     → Sound s → Grown slotted_store slotted_sink s page at s'
-grown s s' page b at takes begin first second next sd =
+grown s s' page at takes begin added sd =
     let a = s.area.now in
     let a' = s'.area.now in
-    let q : Place = record { offset = at; len = length page } in
+    let from = end_in s in
+    let q : Place = record { offset = from; len = length page } in
     let n = s.count in
     let room = room_from_takes s (length page) takes in
-    let fits : at + 4 * n + (length page + 4) ≤ length a = omega (arith, room.fits) in
-    let more : places s' ≡ places s ++ (q ∷ []) = ap (pairs a') next ∙ pairs_after a page b a' at n fits room.small first second in
-    let same = before a page b a' at n fits room.small first second in
-    let long = length_after a page b a' at n fits room.small first second in
-    let end : end_in s' ≡ at + length page = ap (end_of 0) more ∙ end_push 0 (places s) q in
+    let fits : from + 4 * n + (length page + 4) ≤ length a = room.fits in
+    let more : places s' ≡ places s ++ (q ∷ []) = ap (pairs a') added.count ∙ pairs_after a page a' from n fits room.small added.area in
+    let same = before a page a' from n fits room.small added.area in
+    let long = length_after a page a' from n fits room.small added.area in
+    let end : end_in s' ≡ from + length page = ap (end_of 0) more ∙ end_push 0 (places s) q in
     record {
-      pages = ap (map (part a')) more ∙ pages-more a a' 0 (places s) q page sd.tiled (subst (λ k. take k a' ≡ take k a) begin same) (page_there a page b a' at n fits room.small first second);
-      offsets = ap (map offset') more ∙ map_push offset' (places s) q;
+      pages = ap (map (part a')) more ∙ pages-more a a' 0 (places s) q page sd.tiled same (page_there a page a' from n fits room.small added.area);
+      offsets = ap (map offset') more ∙ map_push offset' (places s) q ∙ ap (λ o. map offset' (places s) ++ (o ∷ [])) (sym begin);
       sound = record {
-        tiled = subst (Tiles 0) (sym more) (tiles_push 0 (places s) q sd.tiled begin);
+        tiled = subst (Tiles 0) (sym more) (tiles_push 0 (places s) q sd.tiled refl);
         apart = omega arith;
       };
     }

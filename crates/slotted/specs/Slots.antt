@@ -3,7 +3,7 @@ use Rattle.std.specs.Prelude.{◌≡◌, ℕ, ◌+◌, ◌-◌, ◌*◌, ◌/◌
 use Rattle.std.specs.List.{range_with_len}
 use Rattle.sinks.specs.Sinks.{SinkMeaning}
 use Rattle.sinks.specs.Stores.{StoreMeaning}
-use Rattle.areas.specs.Areas.{allowed, store_of, Tiles, end_of}
+use Rattle.areas.specs.Areas.{allowed, store_of, laid, Tiles, end_of}
 use Rattle.areas.specs.declared.place.Place.{Place}
 use Rattle.slotted.specs.declared.sink.SlottedSink.{SlottedSink}
 
@@ -52,9 +52,15 @@ pub record Sound (s : SlottedSink) : Type 0 where
   pub tiled : Tiles 0 (places s)
   pub apart : end_in s + 4 * s.count ≤ length s.area.now
 
+-- a page that is written: its bytes where the pages ended, its pair before the others, and no other byte changed
+pub record Added (s : SlottedSink) (p : List ℕ) (s' : SlottedSink) : Type 0 where
+  pub area : s'.area.now ≡ laid (laid s.area.now (end_in s) p) (length s.area.now - 4 * (s.count + 1)) (pair_bytes (end_in s) (length p))
+  pub count : s'.count ≡ s.count + 1
+  pub lent : s'.area.ghost_name ≡ s.area.ghost_name
+
 -- what a slotted sink means to its writer
 abbrev pub slotted_sink : SinkMeaning SlottedSink
-slotted_sink = record { takes = fits_in; sound = Sound }
+slotted_sink = record { takes = fits_in; sound = Sound; leaves = Added }
 
 -- a new sink over an area: without pages, the whole area its gap
 pub record Made (area : List ℕ) (s : SlottedSink) : Type 0 where

@@ -1,6 +1,6 @@
 ghost use Rattle.std.specs.Prelude.{◌≡◌, true, length};
 ghost use Rattle.sinks.specs.Sinks.{Grown};
-ghost use Rattle.slotted.specs.Slots.{slotted_sink, slotted_store, Sound, gap, fits_in};
+ghost use Rattle.slotted.specs.Slots.{slotted_sink, slotted_store, Sound, Added, end_in, gap, fits_in};
 
 use crate::pairs::enter;
 use crate::sink::SlottedSink;
@@ -21,16 +21,26 @@ impl<'a> SlottedSink<'a> {
         allowed_area(self.area.len()) && fits(len, 4, self.gap())
     }
 
-    // Adds a page that there is room for.
-    fn add(&mut self, page: &[u8]) -> usize
+    // Lays a page down that there is room for, and enters where it lies.
+    fn put(&mut self, page: &[u8]) -> usize
         requires { fits_in self.old (length page.now) ≡ true }
-        ensures { Sound self.old → Grown slotted_store slotted_sink self.old page.now result self.new }
+        ensures at { result ≡ end_in self.old }
+        ensures added { Added self.old page.now self.new }
     {
         let at = self.end();
         lay(self.area, at, page);
         enter(self.area, self.count, at, page.len());
         self.count += 1;
         at
+    }
+
+    // The same, as the sink's meaning has it. It stands apart so that a wrong byte is refused above, by itself.
+    fn add(&mut self, page: &[u8]) -> usize
+        requires { fits_in self.old (length page.now) ≡ true }
+        ensures grown { Sound self.old → Grown slotted_store slotted_sink self.old page.now result self.new }
+        ensures added { Added self.old page.now self.new }
+    {
+        self.put(page)
     }
 }
 
