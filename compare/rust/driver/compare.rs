@@ -71,6 +71,9 @@ pub fn compare(case_file: &str, rust_file: &str, our_file: &str) -> Result<bool,
     let mut shown = 0;
     let mut chunk = ChunkState::default();
     for case in cases(&lines, &rust, &ours)? {
+        if case.line.starts_with('#') {
+            continue;
+        }
         let words: Vec<&str> = case.line.split(' ').collect();
         let judged = judge(&mut chunk, &words, &case);
         let tally = families.entry(family(&chunk, &words)).or_default();
