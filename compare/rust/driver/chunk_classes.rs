@@ -218,6 +218,7 @@ fn sections(report: &str) -> Vec<Vec<&str>> {
 // What the Rust takes and this library refuses.
 fn limit(number: &str) -> Option<&'static str> {
     Some(match number {
+        "1" | "2" => "Columns and settings that are not allowed",
         "4" => "More than 256 levels in a batch",
         "5" => "Levels that are needed are absent",
         "6" => "A list's count is not the level count",

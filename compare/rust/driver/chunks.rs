@@ -31,8 +31,9 @@ impl Chunks {
     pub fn answer(&mut self, words: &[&str]) -> Option<String> {
         match words {
             ["open", rest @ ..] => {
-                self.chunk = open(rest);
-                Some(if self.chunk.is_some() { "ok" } else { "unread" }.to_string())
+                let opened = panic::catch_unwind(AssertUnwindSafe(|| open(rest)));
+                self.chunk = opened.unwrap_or(None);
+                Some(if self.chunk.is_some() { "ok" } else { "refused" }.to_string())
             }
             ["batch", count, defs, reps, values] => {
                 let count = count.parse().ok()?;
@@ -159,7 +160,7 @@ impl<D: DataType<T: Typed>> Chunk for Written<D> {
 
     fn report(&self) -> String {
         let Some((closed, bounds)) = &self.closed else {
-            return "open".to_string();
+            return "no-record".to_string();
         };
         let mut said = String::new();
         let pages = self.pages.0.lock().unwrap();

@@ -1,6 +1,7 @@
 //! Makes cases: exhaustive short ones first, then random ones around the limits.
 
 use super::columns::{Typed, column, with_type};
+use super::edges;
 use super::line::{Kind, hex};
 use super::random::Random;
 use crate::data_type::DataType;
@@ -415,6 +416,10 @@ struct Script {
 fn chunks(random: &mut Random, count: u64, out: &mut impl Write) -> io::Result<()> {
     for at in 0..count {
         let text = KINDS[at as usize % KINDS.len()];
+        if random.one_in(8) {
+            edges::chunk(random, text, kind(text), out)?;
+            continue;
+        }
         let mut script = open(random, text, out)?;
         for _ in 0..random.pick(&[0, 1, 2, 3, 5, 8, 20, 60]) {
             if script.pages >= 63 {

@@ -6,6 +6,7 @@ mod chunks;
 mod classes;
 mod columns;
 mod compare;
+mod edges;
 mod generate;
 mod line;
 mod random;

@@ -90,6 +90,7 @@ struct Chunk {
     open: Page,
     waits: bool,
     closed: bool,
+    refused: bool,
     pages: Vec<Page>,
 }
 
@@ -127,6 +128,7 @@ impl Chunk {
             open: Page::default(),
             waits: false,
             closed: false,
+            refused: false,
             pages: vec![],
         })
     }
@@ -151,6 +153,7 @@ impl Chunk {
             Ok(())
         };
         self.closed = refused.is_err();
+        self.refused = refused.is_err();
         refused
     }
 
@@ -240,7 +243,7 @@ impl Chunk {
             return refuse(24);
         }
         let used: usize = self.pages.iter().map(|page| self.bytes(page).len()).sum();
-        if 4 + used + self.bytes(&self.open).len() > self.area {
+        if !(4..=65535).contains(&self.area) || 4 + used + self.bytes(&self.open).len() > self.area {
             return refuse(25);
         }
         self.pages.push(std::mem::take(&mut self.open));
@@ -281,8 +284,8 @@ impl Chunk {
     }
 
     fn report(&self) -> String {
-        if !self.closed {
-            return "open".to_string();
+        if !self.closed || self.refused {
+            return "no-record".to_string();
         }
         with_type!(self.kind, D => self.report_of::<D>())
     }
