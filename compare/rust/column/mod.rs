@@ -1,0 +1,5 @@
+//! The module tree around the sources: page.rs and writer/ are theirs.
+
+pub mod page;
+pub mod reader;
+pub mod writer;
