@@ -47,7 +47,7 @@ module _ {K L B S : Type 0} (x : Context) (m : StoreMeaning S) (w : SinkMeaning 
   pub batch_refused : (s : List ℕ) (r : Result BatchDone ChunkFault) (e : ChunkFault) → r ≡ Err e → tested (batch_tests x (length s) l b) (Ok (intake_of (layout x) b)) ≡ Err e → Batched x m w o l b c s r c s
   batch_refused s r e h t = subst (λ q. Batched x m w o l b c s q c s) (sym h) (record {
     answer = sym (tested_err (batch_tests x (length s) l b) (intake_of (layout x) b) e (Ok (settled x (w.takes c.sink) l b)) t);
-    left = record { stands = st; scratch = refl; untouched = (refl, refl) };
+    left = record { stands = st; scratch = refl; sink = (refl, refl) };
     kept = (refl, refl);
   })
 
@@ -80,6 +80,6 @@ module _ {K L B S : Type 0} (x : Context) (m : StoreMeaning S) (w : SinkMeaning 
         (f.answer
         ∙ ap (λ n. cond (due x (join l.page (taken (layout x) b))) (done n (written x (w.takes c.sink) (adds l (taken (layout x) b)))) (done n (Ok 0))) (passes x (length s) l b i h).values)
         ∙ sym (tested_ok (batch_tests x (length s) l b) (intake_of (layout x) b) i (Ok (settled x (w.takes c.sink) l b)) h);
-    left = record { stands = f.left.stands; scratch = f.left.scratch; untouched = f.left.untouched };
+    left = record { stands = f.left.stands; scratch = f.left.scratch; sink = f.left.sink };
     kept = tt;
   }

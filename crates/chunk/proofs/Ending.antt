@@ -38,7 +38,7 @@ module _ {K L B S : Type 0} (x : Context) (m : StoreMeaning S) (w : SinkMeaning 
   pub cut_refused : (s : List ℕ) (e : ChunkFault) → Stands x m w o l c → tested {A = Unit {0}} (end_tests l (length s)) (Ok tt) ≡ Err e → CutBy x m w o l c s (Err e) c s
   cut_refused s e st h = record {
     answer = sym (tested_err (end_tests l (length s)) tt e (written x (w.takes c.sink) l) h);
-    left = record { stands = st; scratch = refl; untouched = (refl, refl) };
+    left = record { stands = st; scratch = refl; sink = (refl, refl) };
     kept = (refl, refl);
   }
 
@@ -83,7 +83,7 @@ module _ {K L B S : Type 0} (x : Context) (m : StoreMeaning S) (w : SinkMeaning 
   pub closed_after : (s : List ℕ) (n : ℕ) (c' : ColumnChunk K L B S) (s' : List ℕ) → Stands x m w o l c → CutBy x m w o l c s (Ok n) c' s' → ClosedBy x m w o l c s (Ok n) (record c' { phase = Closed }) s'
   closed_after s n c' s' st by = record {
     answer = by.answer;
-    left = record { stands = shut_stands n c' (open_from s n by.answer) (ended_blank x (w.takes c.sink) (length s) l (layout x).max_def_level n st.page.well.paired st.page.well.counted (sym by.answer)) by.left.stands; scratch = by.left.scratch; untouched = by.left.untouched };
+    left = record { stands = shut_stands n c' (open_from s n by.answer) (ended_blank x (w.takes c.sink) (length s) l (layout x).max_def_level n st.page.well.paired st.page.well.counted (sym by.answer)) by.left.stands; scratch = by.left.scratch; sink = by.left.sink };
     kept = tt;
   }
 
@@ -92,7 +92,7 @@ module _ {K L B S : Type 0} (x : Context) (m : StoreMeaning S) (w : SinkMeaning 
   pub settled_not_due : (s : List ℕ) (n : ℕ) → Stands x m w o l c → due x l.page ≡ false → Settled x m w o l n c s (done n (Ok 0)) c s
   settled_not_due s n st h = record {
     answer = sym (cond-false (due x l.page) (done n (written x (w.takes c.sink) l)) (done n (Ok 0)) h);
-    left = record { stands = st; scratch = refl; untouched = (refl, refl) };
+    left = record { stands = st; scratch = refl; sink = (refl, refl) };
   }
 
   pub settled_wrote : (s : List ℕ) (n : ℕ) (r : Result ℕ ChunkFault) (c' : ColumnChunk K L B S) (s' : List ℕ) → due x l.page ≡ true → Wrote x m w o l c s r c' s' → Settled x m w o l n c s (done n r) c' s'

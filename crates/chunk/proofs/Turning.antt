@@ -26,7 +26,7 @@ module _ {K L B S : Type 0} (x : Context) (m : StoreMeaning S) (w : SinkMeaning 
   pub wrote_nothing : (scr : List ℕ) → levels l.page ≡ 0 → Wrote x m w o l c scr (Ok 0) c scr
   wrote_nothing scr z = record {
     answer = sym (cond-true (eqb (levels l.page) 0) (Ok 0) _ (eq-eqb (levels l.page) 0 z));
-    left = record { stands = s; scratch = refl; untouched = (refl, refl) };
+    left = record { stands = s; scratch = refl; sink = (refl, refl) };
     kept = tt;
   }
 
@@ -36,16 +36,16 @@ module _ {K L B S : Type 0} (x : Context) (m : StoreMeaning S) (w : SinkMeaning 
   pub wrote_refused : (scr : List ℕ) (e : ChunkFault) → (levels l.page ≡ 0 → ⊥) → tested {A = Unit {0}} tests (Ok tt) ≡ Err e → Wrote x m w o l c scr (Err e) c scr
   wrote_refused scr e z h = record {
     answer = sym (cond-false (eqb (levels l.page) 0) (Ok 0) (tested tests (Ok 1)) (ne_eqb (levels l.page) 0 z) ∙ tested_err tests tt e (Ok 1) h);
-    left = record { stands = s; scratch = refl; untouched = (refl, refl) };
+    left = record { stands = s; scratch = refl; sink = (refl, refl) };
     kept = (refl, refl);
   }
 
   pub wrote_page : (scr scr' : List ℕ) (sink : S) (log : PageLog) (page : OpenPage) (off : ℕ)
       → accepted x ≡ true → (levels l.page ≡ 0 → ⊥) → tested {A = Unit {0}} tests (Ok tt) ≡ Ok tt → Grown m w c.sink (bytes x l.page) off sink
       → Logged x (s.offsets ++ (off ∷ [])) (l.pages ++ (l.page ∷ [])) log → Opened x.kind (layout x) blank page
-      → scr' ≡ bytes x l.page ++ drop (length (bytes x l.page)) scr
+      → w.leaves c.sink (bytes x l.page) sink → scr' ≡ bytes x l.page ++ drop (length (bytes x l.page)) scr
       → Wrote x m w o l c scr (Ok 1) (record c { sink = sink; page = page; log = log }) scr'
-  wrote_page scr scr' sink log page off ok z h grown logged fresh after = record {
+  wrote_page scr scr' sink log page off ok z h grown logged fresh leaves after = record {
     answer = sym (cond-false (eqb (levels l.page) 0) (Ok 0) (tested tests (Ok 1)) (ne_eqb (levels l.page) 0 z) ∙ tested_ok tests tt tt (Ok 1) h);
     left = record {
       stands = record {
@@ -66,7 +66,7 @@ module _ {K L B S : Type 0} (x : Context) (m : StoreMeaning S) (w : SinkMeaning 
         log = logged;
       };
       scratch = after;
-      untouched = tt;
+      sink = leaves;
     };
     kept = tt;
   }

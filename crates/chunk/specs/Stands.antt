@@ -70,10 +70,10 @@ abbrev pub Kept : {A X : Type 0} → A → List ℕ → Result X ChunkFault → 
 Kept c s (Ok r) c' s' = Unit {0}
 Kept c s (Err e) c' s' = (c' ≡ c) × (s' ≡ s)
 
--- where no page is written, neither sink nor scratch changes
-abbrev pub Untouched : {S : Type 0} → S → List ℕ → ℕ → S → List ℕ → Type 0
-Untouched k s zero k' s' = (k' ≡ k) × (s' ≡ s)
-Untouched k s (suc n) k' s' = Unit {0}
+-- where no page is written, neither sink nor scratch changes; a page that is leaves of the sink's memory what the sink says
+abbrev pub SinkLeft : {S : Type 0} → SinkMeaning S → List ℕ → S → List ℕ → ℕ → S → List ℕ → Type 0
+SinkLeft w bs k s zero k' s' = (k' ≡ k) × (s' ≡ s)
+SinkLeft w bs k s (suc n) k' s' = w.leaves k bs k'
 
 -- what a chunk was opened with, by the meanings of its kind and its coders
 abbrev pub context_of : {K L B S : Type 0} → Meaning → Coding → Body → ColumnChunk K L B S → Context
@@ -81,14 +81,14 @@ context_of m c b k = context m c b k.column k.settings
 
 -- what adding a page to a sink answers and leaves
 abbrev pub Out : {S : Type 0} → StoreMeaning S → SinkMeaning S → S → List ℕ → S → Result ℕ ChunkFault → Type 0
-Out m w k p k' (Ok o) = (w.takes k (length p) ≡ true) × (w.sound k → Grown m w k p o k')
+Out m w k p k' (Ok o) = (w.takes k (length p) ≡ true) × (w.sound k → Grown m w k p o k') × w.leaves k p k'
 Out m w k p k' (Err e) = (w.takes k (length p) ≡ false) × (k' ≡ k)
 
 -- the three changes that a call may make, by what it answered: of the chunk, its sink and the scratch
 pub record Left {K L B S : Type 0} (x : Context) (m : StoreMeaning S) (w : SinkMeaning S) (o : Before) (l : Ledger) (p : Page) (n : ℕ) (c : ColumnChunk K L B S) (s : List ℕ) (c' : ColumnChunk K L B S) (s' : List ℕ) : Type 0 where
   pub stands : Stands x m w o l c'
   pub scratch : s' ≡ scratched x p n s
-  pub untouched : Untouched c.sink s n c'.sink s'
+  pub sink : SinkLeft w (bytes x p) c.sink s n c'.sink s'
 
 -- what writing the open page of a ledger answers and leaves
 pub record Wrote {K L B S : Type 0} (x : Context) (m : StoreMeaning S) (w : SinkMeaning S) (o : Before) (l : Ledger) (c : ColumnChunk K L B S) (s : List ℕ) (r : Result ℕ ChunkFault) (c' : ColumnChunk K L B S) (s' : List ℕ) : Type 0 where

@@ -74,4 +74,5 @@ returns g c = λ o l s.
     (subst (λ p. Grown m w c.args.self.now.sink p c.in_ok-offset.offset c.write_out.new.sink) fr (c.in_ok-offset.ensures.1 s.sound))
     (logged_more x s.offsets l.pages c.in_ok-offset.offset l.page c.args.self.now.log c.add_data_page.new.self c.add_data_page.result t logged)
     (subst (λ y. Opened x.kind y blank c.new-self.result) c.layout.ensures (c.new-self.ensures (subst Allowed (sym c.layout.ensures) (layout_allowed x.column x.settings))))
+    (subst (λ p. w.leaves c.args.self.now.sink p c.write_out.new.sink) fr c.in_ok-offset.ensures.2)
     b.1
