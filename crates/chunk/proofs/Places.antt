@@ -64,10 +64,10 @@ module _ (x : Context) (l : Ledger) (off k : ℕ) where
   pub entry_made : (q : Result ledger.Entry ChunkFault) → q ≡ entry_answer x l off k → EnteredBy x l off k q
   entry_made (Ok e) h =
       let f : (k < length l.pages) × (e ≡ there) =
-        ⊎_elim
-        (λ i. (i, let z : ◌≡◌ {A = Result ledger.Entry ChunkFault} (Ok e) (Ok there) = h ∙ answer_there i in cc))
-        (λ i. let z : ◌≡◌ {A = Result ledger.Entry ChunkFault} (Ok e) (Err (OfPage NoPage)) = h ∙ answer_past i in cc)
-        (cases_lt k (length l.pages)) in
+      ⊎_elim
+      (λ i. (i, let z : ◌≡◌ {A = Result ledger.Entry ChunkFault} (Ok e) (Ok there) = h ∙ answer_there i in cc))
+      (λ i. let z : ◌≡◌ {A = Result ledger.Entry ChunkFault} (Ok e) (Err (OfPage NoPage)) = h ∙ answer_past i in cc)
+      (cases_lt k (length l.pages)) in
       record { answer = h; says = subst (EntrySays x l.pages k) (sym f.1) (entry_says x l.pages off k) }
   entry_made (Err e) h = record { answer = h; says = tt }
 

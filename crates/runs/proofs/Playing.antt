@@ -41,7 +41,6 @@ pub same_context : {K L B S : Type 0} (x : Context) (m : StoreMeaning S) (w : Si
 same_context x m w o l c st = ap (λ col. context x.kind x.levels x.body col c.settings) st.column ∙ ap (context x.kind x.levels x.body x.column) st.settings
 
 module _ {K L B S : Type 0} (x : Context) (m : StoreMeaning S) (w : SinkMeaning S) (o : Before) (room : ℕ) (l : Ledger) where
-
   pub played_none : (c : ColumnChunk K L B S) → Stands x m w o l c → PlayedAll x m w o room l [] [] c
   played_none c st = record { stands = st; answers = refl }
 
@@ -101,7 +100,7 @@ so_far_more x m w room c cs old new at c1 call r s c2 s' fc fa is n h one =
     let few : at < length new = omega (arith, h.long, fa) in
     let ec : take (at + 1) cs ≡ take at cs ++ (call ∷ []) = take_more cs at call fc ∙ ap (λ y. take at cs ++ (y ∷ [])) is in
     let er : take (at + 1) (map answer_of (set new at r)) ≡ take at (map answer_of new) ++ (answer_of r ∷ []) =
-      take-map answer_of (at + 1) (set new at r) ∙ ap (map answer_of) (take_more_set new at r few) ∙ map-append answer_of (take at new) (r ∷ []) ∙ ap (λ y. y ++ (answer_of r ∷ [])) (sym (take-map answer_of at new)) in
+    take-map answer_of (at + 1) (set new at r) ∙ ap (map answer_of) (take_more_set new at r few) ∙ map-append answer_of (take at new) (r ∷ []) ∙ ap (λ y. y ++ (answer_of r ∷ [])) (sym (take-map answer_of at new)) in
     let lens : length (take at cs) ≡ length (take at (map answer_of new)) = length-take-le at cs (omega (arith, fc)) ∙ sym (length-take-le at (map answer_of new) (omega (arith, few, length-map new answer_of))) in
     record {
       played = λ o l st.

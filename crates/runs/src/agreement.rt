@@ -3,7 +3,6 @@ ghost use Rattle.std.specs.Option.{option_map};
 ghost use Rattle.metrics.specs.Metrics.{kept};
 ghost use Rattle.ledger.specs.Laws.{Exactly};
 ghost use Rattle.page_log.specs.Records.{said_record};
-
 ghost use Rattle.ledger.specs.Ledger.{Ledger};
 ghost use Rattle.chunk.specs.Stands.{Before, Stands, context_of};
 ghost use Rattle.runs.specs.Runs.{Agreed};
@@ -28,10 +27,7 @@ pub fn agree<
     M: LevelCoder,
     C: BodyCoder,
     T: PageSink,
->(
-    one: &ColumnChunk<K, L, B, S>,
-    other: &ColumnChunk<K, M, C, T>,
-) -> Result<bool, ChunkFault>
+>(one: &ColumnChunk<K, L, B, S>, other: &ColumnChunk<K, M, C, T>) -> Result<bool, ChunkFault>
     ensures { (o p : Before) (l q : Ledger) → Stands (context_of K.Kind.meaning L.LevelCoder.coding B.BodyCoder.body one.now) S.PageStore.meaning S.PageSink.meaning o l one.now → Stands (context_of K.Kind.meaning M.LevelCoder.coding C.BodyCoder.body other.now) T.PageStore.meaning T.PageSink.meaning p q other.now → Agreed (context_of K.Kind.meaning L.LevelCoder.coding B.BodyCoder.body one.now) l (context_of K.Kind.meaning M.LevelCoder.coding C.BodyCoder.body other.now) q result }
 {
     let one = one.record()?;

@@ -19,6 +19,6 @@ returns-clause-run g c = λ sound.
     let cs = take n (map (call_of g.V.ValueOf.bytes) c.args.calls.now) in
     let rs = take n (map answer_of c.play_all.new.answers) in
     let all : PlayedAll x m w o (length c.args.scratch.now) (opened x) cs rs c.play_all.new.chunk =
-      subst (λ y. PlayedAll y m w o (length c.args.scratch.now) (opened x) cs rs c.play_all.new.chunk) e
-      (c.play_all.ensures.played o (opened x) (subst (λ y. Stands y m w o (opened x) c.open-chunk.result) (sym e) st)) in
+    subst (λ y. PlayedAll y m w o (length c.args.scratch.now) (opened x) cs rs c.play_all.new.chunk) e
+    (c.play_all.ensures.played o (opened x) (subst (λ y. Stands y m w o (opened x) c.open-chunk.result) (sym e) st)) in
     ran x m w o (length c.args.scratch.now) cs rs c.play_all.new.chunk all
