@@ -6,6 +6,7 @@ use Rattle.std.proofs.lemmas.List.Sums.{sum_by-cons}
 use Rattle.std.specs.List.{AllByRecursion}
 use Rattle.std.specs.Option.{ok_or}
 use Rattle.level_coder.specs.Coding.{Coding}
+use Rattle.body_coder.specs.Body.{Body}
 use Rattle.pages.specs.Counts.{values_in, byte_count, Counted}
 use Rattle.pages.specs.Layout.{level_part, page_bytes}
 use Rattle.pages.specs.Pages.{ListFits}
@@ -22,7 +23,7 @@ use Rattle.ledger.specs.Answers.{levels_read, tight, read_counts, read_into}
 use Rattle.open_page.specs.Pages.{Allowed, WellFormed}
 use Rattle.open_page.proofs.Accepted.{accepted_joinable}
 use Rattle.open_page.proofs.Fitting.{page_fits}
-use Rattle.chunk.specs.Reads.{page_of, ReadBy}
+use Rattle.chunk.specs.Reads.{page_of, ReadBy, ReadFrom}
 
 -- ---- one list
 
@@ -182,3 +183,10 @@ module _ (x : Context) (l : Ledger) (k : ℕ) (reps defs plain : List ℕ) where
     definition = d;
     values = v;
   }
+
+-- what was read of bytes that a sink's page is
+pub read_from : (c : Coding) (b : Body) (l : Layout) (n : ℕ) (bs : List ℕ) (page : Option (List ℕ)) (ro dn po ro' dn' po' : List ℕ) (r : Option PageCounts) (q : Result PageCounts ChunkFault) (f : ChunkFault)
+    → page ≡ Some bs → PageRead c b l n bs ro dn po ro' dn' po' (byte_count r) → Counted l n dn' r → q ≡ ok_or r f → ReadFrom c b l page ro dn po q ro' dn' po'
+read_from c b l n bs page ro dn po ro' dn' po' None q f e h k v = subst (λ y. ReadFrom c b l page ro dn po y ro' dn' po') (sym v) tt
+read_from c b l n bs page ro dn po ro' dn' po' (Some r) q f e h k v =
+    subst (λ y. ReadFrom c b l page ro dn po y ro' dn' po') (sym v) (bs, e, subst (λ i. PageRead c b l i bs ro dn po ro' dn' po' (Some r.bytes)) (sym k.0) h)

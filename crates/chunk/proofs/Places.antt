@@ -120,3 +120,12 @@ copied bs out out' None q f p e few h v = let c : CopyOf bs out out' None = subs
 copied bs out out' (Some n) q f p e few h v =
     let c : CopyOf bs out out' (Some n) = subst (λ y. Copied y out out' (Some n)) e h in
     (v ∙ ap (λ k. Ok k) c.0, ap (take (length bs)) c.2 ∙ take-append_seam bs (drop n out))
+
+-- a copy that was made shows what was copied
+pub copied_from : (out out' : List ℕ) (r : Option ℕ) (q : Result ℕ ChunkFault) (f : ChunkFault) (p : Option (List ℕ)) → Copied p out out' r → q ≡ ok_or r f → (n : ℕ) → q ≡ Ok n → p ≡ Some (take n out')
+copied_from out out' None q f p c v n h = let z : ◌≡◌ {A = Result ℕ ChunkFault} (Err f) (Ok n) = sym v ∙ h in cc
+copied_from out out' (Some k) q f None c v n h = cc
+copied_from out out' (Some k) q f (Some bs) c v n h =
+    let z : ◌≡◌ {A = Result ℕ ChunkFault} (Ok k) (Ok n) = sym v ∙ h in
+    let e : n ≡ length bs = let i : k ≡ n = cc in sym i ∙ c.0 in
+    ap Some (sym (ap (take n) c.2 ∙ ap (λ i. take i (bs ++ drop k out)) e ∙ take-append_seam bs (drop k out)))

@@ -1,5 +1,9 @@
 -- What the three calls that only read a chunk answer, from docs/RULES.md.
-use Rattle.std.specs.Prelude.{◌≡◌, ℕ, ◌+◌, List, length, IfOk, Ok, Err, Result, slice_index_or}
+use Rattle.std.specs.Prelude.{◌≡◌, ℕ, ◌+◌, List, length, IfOk, Some, Ok, Err, Option, Result, slice_index_or}
+use Rattle.level_coder.specs.Coding.{Coding}
+use Rattle.body_coder.specs.Body.{Body}
+use Rattle.pages.specs.Reading.{PageRead}
+use Rattle.pages.specs.declared.layout.Layout.{Layout}
 use Rattle.refusals.specs.declared.fault.ChunkFault.{ChunkFault}
 use Rattle.pages.specs.declared.counts.PageCounts.{PageCounts}
 use Rattle.ledger.specs.Pages.{Page, blank, joined}
@@ -41,3 +45,8 @@ pub record ReadBy (x : Context) (l : Ledger) (k : ℕ) (reps defs plain : List �
   pub repetition : reps' ≡ read_into r (levels_read (layout x).max_rep_level (page_of l k).reps) reps
   pub definition : defs' ≡ read_into r (levels_read (layout x).max_def_level (page_of l k).defs) defs
   pub values : plain' ≡ read_into r (plain_bytes x (page_of l k)) plain
+
+-- where a read page comes from: its lists are what the sink's page, so numbered, gives
+abbrev pub ReadFrom : Coding → Body → Layout → Option (List ℕ) → List ℕ → List ℕ → List ℕ → Result PageCounts ChunkFault → List ℕ → List ℕ → List ℕ → Type 0
+ReadFrom c b l page ro dn po (Ok r) ro' dn' po' = (p : List ℕ) × (page ≡ Some p) × PageRead c b l r.levels p ro dn po ro' dn' po' (Some r.bytes)
+ReadFrom c b l page ro dn po (Err e) ro' dn' po' = Unit {0}

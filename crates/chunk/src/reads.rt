@@ -1,10 +1,12 @@
-ghost use Rattle.std.specs.Prelude.{◌≡◌, ℕ, ◌<◌, ◌≤◌, length, take, Some, Ok};
+ghost use Rattle.std.specs.Prelude.{◌≡◌, ℕ, ◌+◌, ◌<◌, ◌≤◌, length, take, Some, Ok};
+ghost use Rattle.std.specs.List.{slice_get};
+ghost use Rattle.columns.specs.Columns.{layout_of};
 ghost use Rattle.ledger.specs.Ledger.{Ledger};
 ghost use Rattle.ledger.specs.Context.{bytes};
 ghost use Rattle.entries.specs.Entries.{said_entry};
 ghost use Rattle.page_log.specs.Records.{said_record};
 ghost use Rattle.chunk.specs.Stands.{Before, Stands, context_of};
-ghost use Rattle.chunk.specs.Reads.{answered, offset_of, page_of, EnteredBy, RecordedBy, ReadBy};
+ghost use Rattle.chunk.specs.Reads.{answered, offset_of, page_of, EnteredBy, RecordedBy, ReadBy, ReadFrom};
 
 use crate::chunk::ColumnChunk;
 use body_coder::BodyCoder;
@@ -42,7 +44,8 @@ impl<K: Kind, L: LevelCoder, B: BodyCoder, S: PageSink> ColumnChunk<K, L, B, S> 
         defs: &mut [u8],
         plain: &mut [u8],
     ) -> Result<PageCounts, ChunkFault>
-        ensures { (o : Before) (l : Ledger) → Stands (context_of K.Kind.meaning L.LevelCoder.coding B.BodyCoder.body self.now) S.PageStore.meaning S.PageSink.meaning o l self.now → ReadBy (context_of K.Kind.meaning L.LevelCoder.coding B.BodyCoder.body self.now) l k reps.old defs.old plain.old result reps.new defs.new plain.new }
+        ensures from_sink { ReadFrom L.LevelCoder.coding B.BodyCoder.body (layout_of self.now.column self.now.settings) (slice_get (S.PageStore.meaning.pages self.now.sink) (self.now.base + k)) reps.old defs.old plain.old result reps.new defs.new plain.new }
+        ensures page { (o : Before) (l : Ledger) → Stands (context_of K.Kind.meaning L.LevelCoder.coding B.BodyCoder.body self.now) S.PageStore.meaning S.PageSink.meaning o l self.now → ReadBy (context_of K.Kind.meaning L.LevelCoder.coding B.BodyCoder.body self.now) l k reps.old defs.old plain.old result reps.new defs.new plain.new }
     {
         let entry = self.entry(k)?;
         let mut room = [0u8; 9227];
@@ -55,9 +58,13 @@ impl<K: Kind, L: LevelCoder, B: BodyCoder, S: PageSink> ColumnChunk<K, L, B, S> 
     // Copies the bytes of page k from the sink to the front of `room`. They are there and fit, so that the refusal is not met.
     fn copy_page(&self, k: usize, room: &mut [u8]) -> Result<usize, ChunkFault>
         ensures within { (n : ℕ) → result ≡ Ok n → n ≤ length room.new }
+        ensures from_sink { (n : ℕ) → result ≡ Ok n → slice_get (S.PageStore.meaning.pages self.now.sink) (self.now.base + k) ≡ Some (take n room.new) }
         ensures page { (o : Before) (l : Ledger) → Stands (context_of K.Kind.meaning L.LevelCoder.coding B.BodyCoder.body self.now) S.PageStore.meaning S.PageSink.meaning o l self.now → k < length l.pages → 9227 ≤ length room.old → (result ≡ Ok (length (bytes (context_of K.Kind.meaning L.LevelCoder.coding B.BodyCoder.body self.now) (page_of l k)))) × (take (length (bytes (context_of K.Kind.meaning L.LevelCoder.coding B.BodyCoder.body self.now) (page_of l k))) room.new ≡ bytes (context_of K.Kind.meaning L.LevelCoder.coding B.BodyCoder.body self.now) (page_of l k)) }
     {
-        let size = self.sink.copy(self.base.saturating_add(k), room);
+        let Some(at) = self.base.checked_add(k) else {
+            return Err(ChunkFault::Page(PageFault::NoPage));
+        };
+        let size = self.sink.copy(at, room);
         size.ok_or(ChunkFault::Page(PageFault::NoPage))
     }
 

@@ -1,5 +1,4 @@
-use Rattle.std.proofs.Common.{◌≡◌, true, false, sym, refl, ap, ◌∙◌}
-use Rattle.std.proofs.lemmas.Bool.{not-true}
+use Rattle.std.proofs.Common.{◌≡◌, true, sym, refl, ap, ◌∙◌}
 use Rattle.ledger.specs.Context.{Context}
 use Rattle.ledger.specs.Ledger.{has_record}
 use Rattle.page_log.specs.Records.{said_record}
