@@ -7,6 +7,7 @@ use Rattle.std.specs.List.{AllByRecursion}
 use Rattle.std.specs.Option.{ok_or}
 use Rattle.level_coder.specs.Coding.{Coding}
 use Rattle.body_coder.specs.Body.{Body}
+use Rattle.pages.specs.declared.layout.Layout.{Layout}
 use Rattle.pages.specs.Counts.{values_in, byte_count, Counted}
 use Rattle.pages.specs.Layout.{level_part, page_bytes}
 use Rattle.pages.specs.Pages.{ListFits}

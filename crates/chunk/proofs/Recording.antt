@@ -1,7 +1,5 @@
 -- What a record says: that of the pages written, which are all that was taken once the chunk is closed.
-use Rattle.std.proofs.Common.{◌≡◌, Bool, true, false, cond, not, List, Ok, Err, Result, sym, refl, ap, ◌∙◌, subst}
-use Rattle.std.proofs.lemmas.Bool.{cond-true, cond-false, not-false, cases_Bool}
-use Rattle.refusals.specs.declared.fault.ChunkFault.{ChunkFault}
+use Rattle.std.proofs.Common.{◌≡◌, true, false, Ok, Err, sym, refl, ap, ◌∙◌, subst}
 use Rattle.refusals.specs.declared.fault.ChunkFault.TheVariants.{NoRecord}
 use Rattle.ledger.specs.Pages.{blank, joined}
 use Rattle.ledger.specs.Context.{Context, layout}
