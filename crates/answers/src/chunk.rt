@@ -10,6 +10,7 @@ use columns::check;
 use intake::Batch;
 use kinds::{Kind, ValueOf};
 use level_coder::LevelCoder;
+use level_data::LevelDataRef;
 use levels::{Legacy, Packed};
 use packed::PackedSink;
 use refusals::{BatchDone, ChunkFault};
@@ -135,13 +136,24 @@ fn batch<K: Kind, L: LevelCoder, B: BodyCoder>(
     for value in bytes.iter() {
         list.push(Given(value.as_slice()))?;
     }
-    let batch = Batch {
+    let defs = given::levels(defs, def_list.as_slice())?;
+    let reps = given::levels(reps, rep_list.as_slice())?;
+    Ok(held.batch::<Given>(batch_of(count, defs, reps, list.as_slice()), scratch))
+}
+
+// A function, which lends both lists of levels and the values for one time.
+fn batch_of<'a, 'v>(
+    count: usize,
+    defs: LevelDataRef<'a>,
+    reps: LevelDataRef<'a>,
+    values: &'a [Given<'v>],
+) -> Batch<'a, Given<'v>> {
+    Batch {
         count,
-        defs: given::levels(defs, def_list.as_slice())?,
-        reps: given::levels(reps, rep_list.as_slice())?,
-        values: list.as_slice(),
-    };
-    Ok(held.batch::<Given>(batch, scratch))
+        defs,
+        reps,
+        values,
+    }
 }
 
 // Keeps the page that a call left at the front of the scratch, if it cut one.

@@ -29,7 +29,9 @@ fn end_chunk(heap: Global, chunk: &mut Vec<String>, out: &mut impl Write) -> any
 
 // Whether the line is one on the chunk that is open.
 fn goes_on(line: &str) -> bool {
-    matches!(line, "cut" | "close" | "report") || line.starts_with("batch ") || line.starts_with('#')
+    matches!(line, "cut" | "close" | "report")
+        || line.starts_with("batch ")
+        || line.starts_with('#')
 }
 
 fn run(rt: &HostRuntime) -> anyhow::Result<()> {
