@@ -1,5 +1,5 @@
 //! Answers cases on chunks by the rules alone: docs/RULES.md, 1, 2 and 4 to 9, read plainly, with nothing of the writer in
-//! it but its order of values. It stands beside the library's own answers, and for them as long as no chunk answers.
+//! it but its order of values. It stands beside the library's own answers.
 
 use super::columns::{Typed, column, with_type};
 use super::line::{Kind, Levels, bit, hex, hex_or_none, unhex};

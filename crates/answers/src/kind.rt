@@ -1,10 +1,5 @@
 use crate::given::said;
 use anyhow::bail;
-use byte_kinds::{
-    ByteArray, DecimalByteArray, DecimalFixedLenByteArray, FixedLenByteArray, Utf8String,
-};
-use floats::{Double, Float, Float16};
-use ints::{Int32, Int64, UInt32, UInt64};
 use kinds::Kind;
 use std::alloc::{AllocError, Global};
 
@@ -12,22 +7,24 @@ use std::alloc::{AllocError, Global};
 macro_rules! at_kind {
     ($kind:expr, $f:ident, $($given:expr),*) => {
         match $kind {
-            1 => $f::<Int32>($($given),*)?,
-            2 => $f::<UInt32>($($given),*)?,
-            3 => $f::<Int64>($($given),*)?,
-            4 => $f::<UInt64>($($given),*)?,
-            5 => $f::<Float>($($given),*)?,
-            6 => $f::<Double>($($given),*)?,
-            7 => $f::<Float16>($($given),*)?,
-            8 => $f::<ByteArray>($($given),*)?,
-            9 => $f::<FixedLenByteArray>($($given),*)?,
-            10 => $f::<Utf8String>($($given),*)?,
-            11 => $f::<DecimalByteArray>($($given),*)?,
-            12 => $f::<DecimalFixedLenByteArray>($($given),*)?,
+            1 => $f::<ints::Int32>($($given),*)?,
+            2 => $f::<ints::UInt32>($($given),*)?,
+            3 => $f::<ints::Int64>($($given),*)?,
+            4 => $f::<ints::UInt64>($($given),*)?,
+            5 => $f::<floats::Float>($($given),*)?,
+            6 => $f::<floats::Double>($($given),*)?,
+            7 => $f::<floats::Float16>($($given),*)?,
+            8 => $f::<byte_kinds::ByteArray>($($given),*)?,
+            9 => $f::<byte_kinds::FixedLenByteArray>($($given),*)?,
+            10 => $f::<byte_kinds::Utf8String>($($given),*)?,
+            11 => $f::<byte_kinds::DecimalByteArray>($($given),*)?,
+            12 => $f::<byte_kinds::DecimalFixedLenByteArray>($($given),*)?,
             _ => bail!("no kind that is known here"),
         }
     };
 }
+
+pub(crate) use at_kind;
 
 // Whether the first value is greater than the second, and whether the second is than the first.
 pub fn greater(heap: Global, kind: u8, a: &[u8], b: &[u8]) -> anyhow::Result<String> {
