@@ -1,8 +1,8 @@
 -- A page that was written is found again at the number of pages before it.
-use Rattle.std.proofs.Common.{◌≡◌, ℕ, true, List, [], ◌∷◌, ◌++◌, length, Some, None, Option, sym, refl, ap, ◌∙◌, subst, append_assoc}
+use Rattle.std.proofs.Common.{◌≡◌, ℕ, List, [], ◌∷◌, ◌++◌, length, Some, None, Option, sym, refl, ap, ◌∙◌, subst, append_assoc}
 use Rattle.std.specs.List.{slice_get}
 use Rattle.sinks.specs.Sinks.{SinkMeaning, Grown}
-use Rattle.sinks.specs.Stores.{StoreMeaning, CopyOf, Copied}
+use Rattle.sinks.specs.Stores.{StoreMeaning, Copied}
 use Rattle.sinks_tests.specs.Users.{Both}
 
 nth_behind : {X : Type 0} (xs : List X) (y : X) (ys : List X) → slice_get (xs ++ (y ∷ ys)) (length xs) ≡ Some y
