@@ -77,6 +77,10 @@ class Text:
             before = self.toks[i - 1][3] if i else ""
             if s in OPEN or s == "<" and (before == "::" or stack and self.toks[stack[-1]][3] == "<"):
                 stack.append(i)
+            elif s == ">>" and len(stack) > 1 and self.toks[stack[-1]][3] == "<" and self.toks[stack[-2]][3] == "<":
+                for j in (stack.pop(), stack.pop()):
+                    self.pair[j], self.pair[i] = i, j
+                    self.opens.add(j)
             elif s == "|" and stack and self.toks[stack[-1]][3] == "|" or (s in CLOSE or s == ">") and stack and (s == ">") == (self.toks[stack[-1]][3] == "<"):
                 j = stack.pop()
                 self.pair[j], self.pair[i] = i, j
