@@ -2,6 +2,7 @@ ghost use Rattle.std.specs.Prelude.{◌≡◌, ◌≤◌, true, length, Ok, OnOk
 ghost use Rattle.refusals.specs.Refusals.{tested};
 ghost use Rattle.ledger.specs.Ledger.{Ledger, is_open};
 ghost use Rattle.ledger.specs.Context.{layout as layout_in};
+ghost use Rattle.ledger.specs.declared.phase.Phase.TheVariants.{Closed};
 ghost use Rattle.ledger.specs.Answers.{end_tests, batch_tests};
 ghost use Rattle.intake.specs.Admitting.{batch_of, intake_of};
 ghost use Rattle.chunk.specs.Stands.{Before, Stands, context_of, Batched, CutBy, ClosedBy};
@@ -45,8 +46,15 @@ impl<K: Kind, L: LevelCoder, B: BodyCoder, S: PageSink> ColumnChunk<K, L, B, S> 
         ensures { (o : Before) (l : Ledger) → Stands (context_of K.Kind.meaning L.LevelCoder.coding B.BodyCoder.body self.old) S.PageStore.meaning S.PageSink.meaning o l self.old → ClosedBy (context_of K.Kind.meaning L.LevelCoder.coding B.BodyCoder.body self.old) S.PageStore.meaning S.PageSink.meaning o l self.old scratch.old result self.new scratch.new }
     {
         let pages = self.cut(scratch)?;
-        self.phase = Phase::Closed;
+        self.shut();
         Ok(pages)
+    }
+
+    // Nothing is written from here on.
+    fn shut(&mut self)
+        ensures { self.new ≡ record self.old { phase = Closed } }
+    {
+        self.phase = Phase::Closed;
     }
 
     // What a batch is refused for, or what it needs.

@@ -1,5 +1,8 @@
 ghost use Rattle.std.specs.Prelude.{◌≡◌, ℕ, ◌+◌, ◌<◌, ◌≤◌, length, take, Some, Ok};
 ghost use Rattle.std.specs.List.{slice_get};
+ghost use Rattle.std.specs.Option.{ok_or};
+ghost use Rattle.pages.specs.declared.fault.PageFault.TheVariants.{NoPage};
+ghost use Rattle.refusals.specs.declared.fault.ChunkFault.TheVariants.{Page as OfPage};
 ghost use Rattle.columns.specs.Columns.{layout_of};
 ghost use Rattle.ledger.specs.Ledger.{Ledger};
 ghost use Rattle.ledger.specs.Context.{bytes};
@@ -23,7 +26,7 @@ impl<K: Kind, L: LevelCoder, B: BodyCoder, S: PageSink> ColumnChunk<K, L, B, S> 
     pub fn entry(&self, k: usize) -> Result<Entry, ChunkFault>
         ensures { (o : Before) (l : Ledger) → Stands (context_of K.Kind.meaning L.LevelCoder.coding B.BodyCoder.body self.now) S.PageStore.meaning S.PageSink.meaning o l self.now → EnteredBy (context_of K.Kind.meaning L.LevelCoder.coding B.BodyCoder.body self.now) l (offset_of o (S.PageStore.meaning.offsets self.now.sink) k) k (answered said_entry result) }
     {
-        self.log.entry(k).ok_or(ChunkFault::Page(PageFault::NoPage))
+        found(self.log.entry(k))
     }
 
     // The record, once the chunk is closed.
@@ -64,8 +67,7 @@ impl<K: Kind, L: LevelCoder, B: BodyCoder, S: PageSink> ColumnChunk<K, L, B, S> 
         let Some(at) = self.base.checked_add(k) else {
             return Err(ChunkFault::Page(PageFault::NoPage));
         };
-        let size = self.sink.copy(at, room);
-        size.ok_or(ChunkFault::Page(PageFault::NoPage))
+        found(self.sink.copy(at, room))
     }
 
     // The sink, to be asked.
@@ -81,4 +83,11 @@ impl<K: Kind, L: LevelCoder, B: BodyCoder, S: PageSink> ColumnChunk<K, L, B, S> 
     {
         self.sink
     }
+}
+
+// What is known of a page, or the refusal that there is none of that number.
+fn found<T>(page: Option<T>) -> Result<T, ChunkFault>
+    ensures { result ≡ ok_or page (OfPage NoPage) }
+{
+    page.ok_or(ChunkFault::Page(PageFault::NoPage))
 }

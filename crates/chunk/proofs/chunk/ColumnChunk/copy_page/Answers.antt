@@ -15,10 +15,10 @@ returns-clause-page g c = λ o l s h room.
     let w = g.S.PageSink.meaning in
     let k = c.args.k in
     let at : c.in-Some.at ≡ c.args.self.now.base + k = c.in-Some.ensures.1 in
-    copied (bytes x (page_of l k)) c.args.room.now c.copy-size.new.out c.copy-size.result c.ok_or.result (OfPage NoPage) _
+    copied (bytes x (page_of l k)) c.args.room.now c.copy.new.out c.copy.result c.found.result (OfPage NoPage) _
     (ap (slice_get (m.pages c.args.self.now.sink)) at ∙ bytes_here x m w o l c.args.self.now s k h)
     (omega (arith, short_here x m w o l c.args.self.now s k h, room))
-    c.copy-size.ensures c.ok_or.ensures.value
+    c.copy.ensures c.found.ensures
 
 pub returns-in_default-clause-page : goal.returns-in_default-clause-page
 returns-in_default-clause-page g c = λ o l s h room. absurd (c.in_default.ensures (omega (arith, s.base_few, s.log.few, h)))
@@ -27,4 +27,4 @@ pub returns-clause-from_sink : goal.returns-clause-from_sink
 returns-clause-from_sink g c = λ n h.
     let m = g.S.PageStore.meaning in
     ap (slice_get (m.pages c.args.self.now.sink)) (sym c.in-Some.ensures.1)
-    ∙ copied_from c.args.room.now c.copy-size.new.out c.copy-size.result c.ok_or.result (OfPage NoPage) (slice_get (m.pages c.args.self.now.sink) c.in-Some.at) c.copy-size.ensures c.ok_or.ensures.value n h
+    ∙ copied_from c.args.room.now c.copy.new.out c.copy.result c.found.result (OfPage NoPage) (slice_get (m.pages c.args.self.now.sink) c.in-Some.at) c.copy.ensures c.found.ensures n h

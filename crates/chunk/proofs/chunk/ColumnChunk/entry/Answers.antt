@@ -12,6 +12,6 @@ returns g c = λ o l s.
     let m = g.S.PageStore.meaning in
     let k = c.args.k in
     let at = offset_here x m g.S.PageSink.meaning o l c.args.self.now s k in
-    entry_answered x l (offset_of o (m.offsets c.args.self.now.sink) k) k c.entry.result c.ok_or.result c.ok_or.ensures.value
+    entry_answered x l (offset_of o (m.offsets c.args.self.now.sink) k) k c.entry.result c.found.result c.found.ensures
     (λ h. c.entry.ensures.there x s.offsets l.pages s.log h ∙ ap (λ n. Some (entry x n (first_row l.pages k) (page_of l k))) (sym at))
     (c.entry.ensures.past x s.offsets l.pages s.log)
