@@ -1,2 +1,4 @@
+pub mod Dips
+pub mod Records
 pub mod Release
 pub mod Rows

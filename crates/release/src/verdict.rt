@@ -1,39 +1,29 @@
-ghost use Rattle.std.specs.Prelude.{◌≡◌, map, Some};
-ghost use Rattle.figures.specs.Figures.{Found};
+ghost use Rattle.std.specs.Prelude.{◌≡◌, ℕ, List, Some};
+ghost use Rattle.figures.specs.Figures.{smallest as smallest_of};
 ghost use Rattle.floats.specs.Floats.{double};
+ghost use Rattle.metrics.specs.Metrics.{kept};
 ghost use Rattle.release.specs.Release.{decided_on, decided};
 ghost use Rattle.words.specs.Words.{eight};
 
 use crate::decision::Decision;
-use figures::{MinMax, get_min_max};
+use buffers::Buffer;
 use floats::{Double, DoubleBits};
 use kinds::{Kind, ValueOf};
 
-// What a vat's hold temperatures say of it.
-#[derive(Clone, Copy, PartialEq, Eq, Debug)]
-pub struct Verdict {
-    pub holds: Option<MinMax<DoubleBits>>,
-    pub decision: Decision,
+// Judges a vat on its smallest hold temperature, as its record has it, at the limit.
+pub fn judge(smallest: Option<Buffer<128>>, limit: DoubleBits) -> Decision
+    ensures value { result ≡ decided_on (eight limit.0) (kept smallest) }
+    ensures holds { (vs : List (List ℕ)) → kept smallest ≡ smallest_of double vs → result ≡ decided (eight limit.0) vs }
+{
+    smallest.map_or(Decision::NoReading, |smallest| decide(&smallest, limit))
 }
 
-// Judges a vat on its hold temperatures at the limit.
-pub fn judge(holds: &[DoubleBits], limit: DoubleBits) -> Verdict
-    ensures holds { Found double (λ v. eight v.0) (map (λ v. eight v.0) holds.now) result.holds }
-    ensures decision { result.decision ≡ decided (eight limit.0) (map (λ v. eight v.0) holds.now) }
+fn decide(smallest: &Buffer<128>, limit: DoubleBits) -> Decision
+    ensures { result ≡ decided_on (eight limit.0) (Some smallest.now) }
 {
-    let holds = get_min_max::<Double, DoubleBits>(holds);
-    Verdict {
-        holds,
-        decision: holds.map_or(Decision::NoReading, |found| decide(found.min, limit)),
-    }
-}
-
-fn decide(smallest: DoubleBits, limit: DoubleBits) -> Decision
-    ensures { result ≡ decided_on (eight limit.0) (Some (eight smallest.0)) }
-{
-    if Double::is_nan(smallest.as_bytes(&mut [0; 8])) {
+    if Double::is_nan(smallest.as_slice()) {
         Decision::ProbeFailed
-    } else if Double::compare_greater(limit.as_bytes(&mut [0; 8]), smallest.as_bytes(&mut [0; 8])) {
+    } else if Double::compare_greater(limit.as_bytes(&mut [0; 8]), smallest.as_slice()) {
         Decision::BelowLimit
     } else {
         Decision::Released

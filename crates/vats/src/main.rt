@@ -1,6 +1,8 @@
 // Judges the vats of a day. Reads the day's log from standard input, a row for each reading: time, vat, hold temperature
-// in degrees Celsius, where an empty cell is a missing reading and `nan` a failed probe. Prints for each vat its
-// figures, and whether it may be released at the limit that the first argument gives, or at 72.0.
+// in degrees Celsius, where an empty cell is a missing reading and `nan` a failed probe. Writes each vat's readings to
+// column chunks, and prints what their records say, and whether the vat may be released at the limit that the first
+// argument gives, or at 72.0; and then for each chunk its pages, which of them may have a reading below the limit, and
+// the record of the chunk that is rebuilt from them.
 
 #![tactic(auto)]
 
@@ -12,9 +14,12 @@ use std::env;
 use std::io::{BufRead, BufReader};
 use std::num::f64_to_bits_with_nan;
 use std::process::ExitCode;
+use vat::Vat;
 
 mod day;
+mod hold_chunk;
 mod report;
+mod vat;
 
 const HEADER: &str = "time,vat,hold";
 
@@ -47,9 +52,22 @@ fn read_day(rt: &HostRuntime) -> anyhow::Result<day::Day> {
 }
 
 fn run(rt: &HostRuntime) -> anyhow::Result<()> {
+    let heap = rt.alloc();
     let limit = limit(rt)?;
     let day = read_day(rt)?;
-    report::print(rt, &day, limit)?;
+    // The chunks are reported as they are written, and shown behind all vats.
+    let mut vats = String::new(heap);
+    let mut chunks = String::new(heap);
+    report::head(&mut vats, limit)?;
+    for (name, holds) in day.iter() {
+        let vat = Vat {
+            name: name.as_str(),
+            holds: holds.as_slice(),
+            limit,
+        };
+        vat.write(heap, &mut vats, &mut chunks)?;
+    }
+    print!(rt; "{vats}{chunks}")?;
     Ok(())
 }
 
