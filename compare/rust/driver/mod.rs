@@ -11,6 +11,7 @@ mod generate;
 mod line;
 mod random;
 mod rules;
+mod speed;
 mod values;
 
 use std::io::{self, BufWriter, Write};
@@ -19,7 +20,9 @@ use std::process::ExitCode;
 const USAGE: &str = "usage: harness generate values|chunks SEED COUNT
        harness answer|rules < CASES
        harness compare CASES OF-THE-RUST OURS
-       harness list CASES OF-THE-RUST OURS FOLDER";
+       harness list CASES OF-THE-RUST OURS FOLDER
+       harness speed OUR-PROGRAM
+       harness speed-write < INPUT";
 
 pub fn main() -> ExitCode {
     let args: Vec<String> = std::env::args().skip(1).collect();
@@ -47,6 +50,8 @@ fn run(args: &[&str]) -> Result<bool, String> {
         ["rules"] => rules::lines().map(|()| true),
         ["compare", cases, rust, ours] => compare::compare(cases, rust, ours),
         ["list", cases, rust, ours, folder] => compare::list(cases, rust, ours, folder),
+        ["speed", ours] => speed::table(ours).map(|()| true),
+        ["speed-write"] => speed::write().map(|()| true),
         _ => Err(USAGE.to_string()),
     }
 }

@@ -62,15 +62,13 @@ impl RleEncoder {
             header >>= 7;
         }
         self.buffer.push(header as u8);
+        // As the crate's own encoder does, a group at a time: at most 8 levels of at most 4 bits.
         let width = usize::from(self.width);
-        let mut packed = vec![0u8; groups * width];
-        for (at, level) in self.levels.iter().enumerate() {
-            for bit in 0..width {
-                let place = at * width + bit;
-                packed[place / 8] |= ((level >> bit & 1) as u8) << (place % 8);
-            }
+        for group in self.levels.chunks(8) {
+            let levels = group.iter().rev();
+            let word = levels.fold(0, |word, level| word << width | (level & ((1 << width) - 1)));
+            self.buffer.extend_from_slice(&u64::to_le_bytes(word)[..width]);
         }
-        self.buffer.extend(packed);
         self.levels.clear();
         self.repeats = 0;
         &mut self.buffer
