@@ -699,6 +699,8 @@ def main():
         print("\n".join(map(str, bugs)))
         print(f"{a.crate}: {len(bugs)} bugs")
         return
+    # so that a run that is ended leaves no copy behind
+    signal.signal(signal.SIGTERM, lambda *_: sys.exit("plants: ended"))
     copy = Copy(top, a.crate)
     try:
         status, said = copy.check(3600)
