@@ -17,9 +17,9 @@ Each bug ends as one of these:
   survivor    still proved: printed with its file, line, old and new text
 
 A bug in one function changes no other function's proof. So several bugs are tried in one check: one of each function in its place, and
-others in copies of the function; whatever seems to survive is tried once more alone, in its place. --list prints the bugs and tries none. --only keeps those whose file,
-function, line or rule has TEXT. --most takes N of them, picked by the seed. --all prints how each bug ended. --table prints a row for
-docs/PLANTS.md at the end.
+others in copies of the function; whatever seems to survive is tried once more alone, in its place. --list prints the bugs and tries
+none. --only keeps those whose file, function, line or rule has TEXT. --most takes N of them, picked by the seed. --all prints how each
+bug ended. --table prints a row for docs/PLANTS.md at the end.
 """
 import argparse
 import bisect
@@ -703,6 +703,8 @@ def main():
         print("\n".join(map(str, bugs)))
         print(f"{a.crate}: {len(bugs)} bugs")
         return
+    # so that a run that is ended leaves no copy behind
+    signal.signal(signal.SIGTERM, lambda *_: sys.exit("plants: ended"))
     copy = Copy(top, a.crate)
     try:
         status, said = copy.check(3600)
