@@ -43,7 +43,7 @@ pub fn answer(heap: Global, line: &str) -> anyhow::Result<String> {
         }
         ["raise", value] => kind::raise(heap, given::bytes(heap, value)?),
         ["raise-text", value] => kind::raise_text(heap, given::bytes(heap, value)?),
-        ["levels", total, max, offset, len, list] => levels::answer(
+        ["levels", total, max, offset, len, list] => level_cases::answer(
             heap,
             total.parse::<usize>()?,
             max.parse::<i16>()?,

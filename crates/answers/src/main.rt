@@ -10,17 +10,17 @@ use std::io::{BufRead, BufReader, BufWriter, Write};
 use std::process::ExitCode;
 
 mod answer;
-mod chunk;
+mod chunk_cases;
 mod given;
 mod kind;
-mod levels;
+mod level_cases;
 mod opening;
 mod report;
 mod values;
 
 // Prints the answers to a chunk's lines, and lets go of the lines.
 fn end_chunk(heap: Global, chunk: &mut Vec<String>, out: &mut impl Write) -> anyhow::Result<()> {
-    for said in chunk::answer(heap, chunk.as_slice())?.iter() {
+    for said in chunk_cases::answer(heap, chunk.as_slice())?.iter() {
         writeln!(out, "{said}")?;
     }
     chunk.clear();

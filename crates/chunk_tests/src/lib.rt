@@ -9,7 +9,7 @@ mod due;
 #[cfg(test)]
 mod ends;
 #[cfg(test)]
-mod figures;
+mod figure_cases;
 #[cfg(test)]
 mod flat;
 #[cfg(test)]

@@ -9,6 +9,6 @@ mod helper;
 #[cfg(test)]
 mod logs;
 #[cfg(test)]
-mod pages;
+mod page_cases;
 #[cfg(test)]
 mod tables;
