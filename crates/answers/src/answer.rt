@@ -1,4 +1,4 @@
-use crate::{given, kind, levels, values};
+use crate::{given, kind, level_cases, values};
 use anyhow::bail;
 use std::alloc::Global;
 
