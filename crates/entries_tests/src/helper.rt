@@ -4,14 +4,14 @@ use metrics::PageMetrics;
 use pages::Layout;
 
 // A BYTE_ARRAY column that may have nulls.
-pub const LAYOUT: Layout = Layout {
+pub(crate) const LAYOUT: Layout = Layout {
     version: 1,
     max_rep_level: 0,
     max_def_level: 1,
     width: 0,
 };
 
-pub fn buffer(bytes: &[u8]) -> Buffer<128> {
+pub(crate) fn buffer(bytes: &[u8]) -> Buffer<128> {
     let mut buffer = Buffer::new();
     // The tests' values fit.
     let _ = buffer.extend(bytes);
@@ -19,7 +19,7 @@ pub fn buffer(bytes: &[u8]) -> Buffer<128> {
 }
 
 // The counts of a page of such definition levels.
-pub fn counted(defs: &[u8]) -> PageMetrics {
+pub(crate) fn counted(defs: &[u8]) -> PageMetrics {
     let mut metrics = PageMetrics::new::<ByteArray>(LAYOUT);
     for def in defs {
         metrics.add_level(LAYOUT, 0, *def);
