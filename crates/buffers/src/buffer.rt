@@ -54,13 +54,16 @@ impl<const N: usize> Buffer<N> {
     pub fn extend(&mut self, bytes: &[u8]) -> Option<()>
         ensures { Appended N self.old bytes.now self.new result }
     {
-        if N - self.used < bytes.len() {
+        let used = self.used;
+        if N - used < bytes.len() {
             return None;
         }
+        let end = used + bytes.len();
         // A slice of it all first, since the check lends no part of an array whose length is a parameter.
         let all = &mut self.bytes[..];
-        all[self.used..self.used + bytes.len()].copy_from_slice(bytes);
-        self.used += bytes.len();
+        all[used..end].copy_from_slice(bytes);
+        // A number computed before, which the compiler need not read again behind the copy.
+        self.used = end;
         Some(())
     }
 }

@@ -1,7 +1,7 @@
 -- Figures of a list of values: smallest, largest and how many are NaN.
-use Rattle.std.specs.Prelude.{◌≡◌, ℕ, ◌+◌, Bool, true, false, cond, not, List, [], ◌∷◌, ◌++◌, Some, None, Option}
+use Rattle.std.specs.Prelude.{◌≡◌, ℕ, ◌+◌, Bool, true, false, cond, not, ◌&&◌, List, [], ◌∷◌, ◌++◌, Some, None, Option}
 use Rattle.std.specs.Borrow.{Bor}
-use Rattle.std.specs.List.{list_any, filter, find}
+use Rattle.std.specs.List.{list_any, filter, find, prefix_len}
 use Rattle.kinds.specs.Meaning.{Meaning, greater}
 use Rattle.figures.specs.declared.min_max.MinMax.{MinMax}
 
@@ -37,6 +37,16 @@ replaces true true above = above
 replaces true false above = true
 replaces false true above = false
 replaces false false above = above
+
+-- a number between two others changes neither of them if these are the smallest and the largest
+abbrev pub between : Meaning → List ℕ → List ℕ → List ℕ → Bool
+between m lo hi v = not (m.nan lo) && not (m.nan hi) && not (m.nan v) && not (greater m lo v) && not (greater m v hi)
+
+-- of these values so many, from the first on, lie between the figures, if there are figures
+abbrev pub Kept : {V : Type 0} → Meaning → (V → List ℕ) → Option V → Option V → List V → ℕ → Type 0
+Kept m bytes (Some lo) (Some hi) vs k = k ≡ prefix_len (λ v. between m (bytes lo) (bytes hi) (bytes v)) vs
+Kept m bytes (Some lo) None vs k = k ≡ 0
+Kept m bytes None hi vs k = k ≡ 0
 
 -- of the figures of two lists, the one that the joined list has
 abbrev pub merged : (List ℕ → Bool) → (List ℕ → List ℕ → Bool) → Option (List ℕ) → Option (List ℕ) → Option (List ℕ)

@@ -1,6 +1,7 @@
-ghost use Rattle.std.specs.Prelude.{◌≡◌, ◌+◌, ◌^◌, ◌<◌, cond, map};
+ghost use Rattle.std.specs.Prelude.{◌≡◌, ◌+◌, ◌^◌, ◌<◌, cond, not, map, position};
+ghost use Rattle.std.specs.List.{prefix_len};
 ghost use Rattle.std.specs.Option.{option_map};
-ghost use Rattle.figures.specs.Figures.{Found, Joins, MinUpdated, MaxUpdated};
+ghost use Rattle.figures.specs.Figures.{Found, Joins, MinUpdated, MaxUpdated, between, Kept};
 
 use crate::min_max::MinMax;
 use crate::update::{is_nan, update_max, update_min};
@@ -15,14 +16,54 @@ pub fn get_min_max<K: Kind, V: ValueOf<K> + Copy>(values: &[V]) -> Option<MinMax
     let mut min = None;
     let mut max = None;
     let mut nan_count = 0;
-    for value in values {
-        update_all::<K, V>(value, &mut min, &mut max, &mut nan_count);
+    let mut at = 0;
+    while at < values.len() {
+        update_all::<K, V>(&values[at], &mut min, &mut max, &mut nan_count);
+        at += 1;
+        at += count_kept::<K, V>(&values[at..], &min, &max);
     }
     Some(MinMax {
         min: min?,
         max: max?,
         nan_count,
     })
+}
+
+// How many values, from the first on, change neither of the two figures.
+fn count_kept<K: Kind, V: ValueOf<K>>(values: &[V], min: &Option<V>, max: &Option<V>) -> usize
+    ensures { Kept K.Kind.meaning V.ValueOf.bytes min.now max.now values.now result }
+{
+    match (min, max) {
+        (Some(min), Some(max)) => count_between::<K, V>(values, min, max),
+        _ => 0,
+    }
+}
+
+// How many values, from the first on, are numbers between two others.
+fn count_between<K: Kind, V: ValueOf<K>>(values: &[V], min: &V, max: &V) -> usize
+    ensures { result ≡ prefix_len (λ v. between K.Kind.meaning (V.ValueOf.bytes min.now) (V.ValueOf.bytes max.now) (V.ValueOf.bytes v)) values.now }
+{
+    find_outside::<K, V>(values, min, max).unwrap_or(values.len())
+}
+
+// Where the first value stands that is not. The two stay while it looks on, so that the compiler prepares them for comparing once.
+fn find_outside<K: Kind, V: ValueOf<K>>(values: &[V], min: &V, max: &V) -> Option<usize>
+    ensures { result ≡ position (λ v. not (between K.Kind.meaning (V.ValueOf.bytes min.now) (V.ValueOf.bytes max.now) (V.ValueOf.bytes v))) values.now }
+{
+    values
+        .iter()
+        .position(|value| !is_between::<K, V>(min, max, value))
+}
+
+// Whether a value is a number between two others.
+fn is_between<K: Kind, V: ValueOf<K>>(min: &V, max: &V, value: &V) -> bool
+    ensures { result ≡ between K.Kind.meaning (V.ValueOf.bytes min.now) (V.ValueOf.bytes max.now) (V.ValueOf.bytes value.now) }
+{
+    !is_nan::<K, V>(min)
+        && !is_nan::<K, V>(max)
+        && !is_nan::<K, V>(value)
+        && !K::compare_greater(min.as_bytes(&mut [0; 8]), value.as_bytes(&mut [0; 8]))
+        && !K::compare_greater(value.as_bytes(&mut [0; 8]), max.as_bytes(&mut [0; 8]))
 }
 
 // Takes one value more into all three figures of those before it.

@@ -13,7 +13,7 @@ not_twice true = refl
 not_twice false = refl
 
 -- a front of those that do not fail is one of those that pass
-fronts_agree : {X : Type 0} (p : X → Bool) (xs : List X) → prefix_len (λ x. not (not (p x))) xs ≡ prefix_len p xs
+pub fronts_agree : {X : Type 0} (p : X → Bool) (xs : List X) → prefix_len (λ x. not (not (p x))) xs ≡ prefix_len p xs
 fronts_agree p [] = refl
 fronts_agree p (x ∷ xs) = ap (λ n. cond (not (not (p x))) (1 + n) 0) (fronts_agree p xs) ∙ ap (λ b. cond b (1 + prefix_len p xs) 0) (not_twice (p x))
 

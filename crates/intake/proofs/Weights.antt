@@ -1,16 +1,18 @@
--- The plain bytes of values, one value more at a time, and what weighing them tells.
-use Rattle.std.proofs.Common.{◌≡◌, ℕ, ◌+◌, ◌-◌, ◌^◌, ◌<◌, ◌≤◌, min, true, false, ltb, List, [], ◌∷◌, map, length, get_or, take, drop, Some, None, Option, Ok, Err, Result, sum_by, sym, refl, ap, ◌∙◌, arith}
-use Rattle.std.specs.List.{prefix_len}
-use Rattle.std.specs.Option.{ok_or}
-use Rattle.std.proofs.lemmas.List.{length-append, length-map, get_or-map, take_all}
-use Rattle.std.proofs.lemmas.List.Sums.{sum_by-cons, sum_by_more, prefix_len-drop_yes, prefix_len-drop_no, prefix_len-drop_all}
-use Rattle.std.proofs.lemmas.Bool.{cond-true, cond-false, lt-ltb, le-ltb}
-use Rattle.kinds.specs.Plain.{plain, sized, PlainSize}
-use Rattle.refusals.specs.declared.fault.ChunkFault.{ChunkFault}
+-- The plain bytes of values, and what weighing them tells.
+use Rattle.std.proofs.Common.{◌≡◌, ℕ, ◌+◌, ◌-◌, ◌*◌, ◌^◌, ◌<◌, min, Bool, true, false, not, cond, ltb, List, [], ◌∷◌, map, length, get_or, take, position, Some, None, Ok, Err, sum_by, sym, refl, ap, ◌∙◌, ⊎_elim, suc-mul, zero-mul, arith}
+use Rattle.std.specs.List.{prefix_len, position_or_len, AllByRecursion}
+use Rattle.std.proofs.lemmas.List.{length-append, length-map, get_or-map}
+use Rattle.std.proofs.lemmas.List.Sums.{sum_by-cons, sum_by_more, prefix_len-le-length}
+use Rattle.std.proofs.lemmas.Bool.{cond-true, cond-false, cases_Bool, lt-ltb, le-ltb, ltb-true, ltb-false}
+use Rattle.std.proofs.lemmas.Option.{same_Some, none-some}
+use Rattle.kinds.specs.Plain.{plain, sized, four}
+use Rattle.kinds.proofs.Plains.{plain_fixed, plain_variable, sized_fixed}
 use Rattle.refusals.specs.declared.fault.ChunkFault.TheVariants.{ValueLength}
 use Rattle.ledger.specs.Pages.{plains}
 use Rattle.ledger.specs.Batches.{unsized, unsized_place}
 use Rattle.intake.specs.Admitting.{weighed}
+use Rattle.intake.proofs.Fronts.{all_from_leading}
+use Rattle.intake.proofs.Strays.{fronts_agree}
 
 length-plains : (w : ℕ) (vs : List (List ℕ)) → length (plains w vs) ≡ sum_by (λ v. length (plain w v)) vs
 length-plains w [] = refl
@@ -38,47 +40,58 @@ weighed_right w vs n e s =
     let t : ltb (prefix_len (sized w) vs) (length vs) ≡ false = le-ltb _ _ (omega arith) in
     ap Ok s ∙ sym (cond-false (unsized w vs) (Err (ValueLength (unsized_place w vs))) (Ok (min (length (plains w vs)) (2 ^ 64 - 1))) t)
 
--- what asking for a size told, where a refusal stands for absence
-wrong_size : (w : ℕ) (v : List ℕ) (o : Option ℕ) (e f : ChunkFault) → PlainSize w v o → ok_or o e ≡ Err f → (sized w v ≡ false) × (f ≡ e)
-wrong_size w v None e f h q = (h, cc)
-wrong_size w v (Some n) e f h q = cc
+-- ---- the plain bytes of values
 
-right_size : (w : ℕ) (v : List ℕ) (o : Option ℕ) (e : ChunkFault) (n : ℕ) → PlainSize w v o → ok_or o e ≡ Ok n → (sized w v ≡ true) × (n ≡ length (plain w v))
-right_size w v None e n h q = cc
-right_size w v (Some m) e n h q = (h.0, (let z : n ≡ m = cc in z) ∙ h.1)
+-- values of one width have that many each
+pub plains_fixed : (w : ℕ) (vs : List (List ℕ)) → 0 < w → AllByRecursion (λ v. sized w v ≡ true) vs → length (plains w vs) ≡ length vs * w
+plains_fixed w [] some h = sym (zero-mul w)
+plains_fixed w (v ∷ vs) some h =
+    omega (arith, suc-mul (length vs) w, length-append (plain w v) (plains w vs), ap length (plain_fixed w v some), sized_fixed w v some h.0, plains_fixed w vs some h.1)
 
--- the first i values are of right length, and have so many plain bytes
-pub record SoFar (w : ℕ) (vs : List (List ℕ)) (i n : ℕ) : Type 0 where
-  pub plain : n ≡ min (length (plains w (take i vs))) (2 ^ 64 - 1)
-  pub front : i + prefix_len (sized w) (drop i vs) ≡ prefix_len (sized w) vs
+-- the lengths of the first i values, and four for each
+abbrev pub LengthsSoFar : List (List ℕ) → ℕ → ℕ → Type 0
+LengthsSoFar vs i n = n ≡ min (length (plains 0 (take i vs))) (2 ^ 64 - 1)
 
-module _ {V : Type 0} (bytes : V → List ℕ) (xs : List V) (w i n : ℕ) (s : SoFar w (map bytes xs) i n) where
-  -- the next value has a size, or is the first of wrong length
-  module _ (x : V) (o : Option ℕ) (a : Result ℕ ChunkFault) (h : i < length xs) (e : x ≡ get_or xs i x) (p : PlainSize w (bytes x) o) (asked : a ≡ ok_or o (ValueLength i)) where
-    bytes_of : bytes x ≡ get_or (map bytes xs) i []
-    bytes_of = read_bytes bytes xs i x h e
+pub lengths_more : {V : Type 0} (bytes : V → List ℕ) (xs : List V) (i n : ℕ) (x : V) → i < length xs → x ≡ get_or xs i x → LengthsSoFar (map bytes xs) i n
+    → LengthsSoFar (map bytes xs) (i + 1) (min (min (n + 4) (2 ^ 64 - 1) + length (bytes x)) (2 ^ 64 - 1))
+lengths_more bytes xs i n x h e s =
+    let v = get_or (map bytes xs) i [] in
+    let is : bytes x ≡ v = read_bytes bytes xs i x h e in
+    omega (arith, s, plains-more 0 (map bytes xs) i (omega (arith, length-map xs bytes)), ap length is, ap length (plain_variable 0 v (omega arith)), length-append (four (length v)) v)
 
-    here : i < length (map bytes xs)
-    here = omega (arith, length-map xs bytes)
+-- ---- the first value of wrong length
 
-    pub weigh_more : (m r : ℕ) → a ≡ Ok m → r ≡ min (n + m) (2 ^ 64 - 1) → SoFar w (map bytes xs) (i + 1) r
-    weigh_more m r q t =
-        let size = right_size w (bytes x) o (ValueLength i) m p (sym asked ∙ q) in
-        let b : sized w (get_or (map bytes xs) i []) ≡ true = ap (sized w) (sym bytes_of) ∙ size.0 in
-        record {
-          plain = omega (arith, t, s.plain, plains-more w (map bytes xs) i here, size.1, ap (λ v. length (Rattle.kinds.specs.Plain.plain w v)) bytes_of);
-          front = omega (arith, s.front, prefix_len-drop_yes (sized w) (map bytes xs) i [] here b);
-        }
+front_mapped : {V : Type 0} (bytes : V → List ℕ) (p : List ℕ → Bool) (xs : List V) → prefix_len (λ v. p (bytes v)) xs ≡ prefix_len p (map bytes xs)
+front_mapped bytes p [] = refl
+front_mapped bytes p (x ∷ xs) = ap (λ n. cond (p (bytes x)) (1 + n) 0) (front_mapped bytes p xs)
 
-    pub weigh_wrong : (f : ChunkFault) → a ≡ Err f → Err f ≡ weighed w (map bytes xs)
-    weigh_wrong f q =
-        let fault = wrong_size w (bytes x) o (ValueLength i) f p (sym asked ∙ q) in
-        let b : sized w (get_or (map bytes xs) i []) ≡ false = ap (sized w) (sym bytes_of) ∙ fault.0 in
-        ap Err fault.1 ∙ weighed_wrong w (map bytes xs) i here (omega (arith, s.front, prefix_len-drop_no (sized w) (map bytes xs) i [] here b))
+module _ {V : Type 0} (bytes : V → List ℕ) (w : ℕ) (xs : List V) where
+  abbrev wrong : V → Bool
+  wrong v = not (sized w (bytes v))
 
-  -- no value is left
-  pub weigh_all : length xs ≤ i → i ≤ length xs → Ok n ≡ weighed w (map bytes xs)
-  weigh_all h k =
-      let all : length (map bytes xs) ≤ i = omega (arith, length-map xs bytes) in
-      weighed_right w (map bytes xs) n (omega (arith, s.front, length-map xs bytes, prefix_len-drop_all (sized w) (map bytes xs) i all))
-      (s.plain ∙ ap (λ q. min (length (plains w q)) (2 ^ 64 - 1)) (take_all i (map bytes xs) all))
+  front : position_or_len wrong xs ≡ prefix_len (sized w) (map bytes xs)
+  front = fronts_agree (λ v. sized w (bytes v)) xs ∙ front_mapped bytes (sized w) xs
+
+  -- one stands there
+  pub weigh_wrong : (i : ℕ) → position wrong xs ≡ Some i → Err (ValueLength i) ≡ weighed w (map bytes xs)
+  weigh_wrong i e =
+      let k = position_or_len wrong xs in
+      ⊎_elim
+      (λ t.
+      let same : k ≡ i = same_Some k i (sym (ap (λ b. cond b (Some k) None) t) ∙ e) in
+      weighed_wrong w (map bytes xs) i (omega (arith, ltb-true k (length xs) t, same, length-map xs bytes)) (sym front ∙ same))
+      (λ t. absurd (none-some i (sym (ap (λ b. cond b (Some k) None) t) ∙ e)))
+      (cases_Bool (ltb k (length xs)))
+
+  -- none does
+  whole : position wrong xs ≡ None → prefix_len (sized w) (map bytes xs) ≡ length (map bytes xs)
+  whole e =
+      let k = position_or_len wrong xs in
+      ⊎_elim
+      (λ t. absurd (none-some k (sym e ∙ ap (λ b. cond b (Some k) None) t)))
+      (λ t. omega (arith, ltb-false k (length xs) t, prefix_len-le-length (λ v. not (wrong v)) xs, front, length-map xs bytes))
+      (cases_Bool (ltb k (length xs)))
+
+  pub weigh_right : (n : ℕ) → position wrong xs ≡ None
+      → (AllByRecursion (λ v. sized w v ≡ true) (map bytes xs) → n ≡ min (length (plains w (map bytes xs))) (2 ^ 64 - 1)) → Ok n ≡ weighed w (map bytes xs)
+  weigh_right n e is = weighed_right w (map bytes xs) n (whole e) (is (all_from_leading (sized w) (map bytes xs) (omega (arith, whole e))))
