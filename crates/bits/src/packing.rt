@@ -3,6 +3,7 @@ ghost use Rattle.bits.specs.Rows.{Fit, packed};
 ghost use Rattle.bits.specs.Packing.{Room, Written, Packs, Unpacks, Repacked};
 
 use crate::order::BitOrder;
+use counting::are_below;
 
 // Writes numbers of `q` bits into all of `out`, from the bits of numbers of `p` bits and 0 behind the last.
 // Widths become `usize` by `as`, here and below, since no `From` takes a `u32` there.
@@ -37,10 +38,10 @@ fn has_room(n: usize, b: u32, k: usize) -> bool
 
 // Whether each number has at most `b` bits.
 fn fits(numbers: &[u8], b: u32) -> bool
-    requires { b ≤ 8 }
+    requires { b ≤ 4 }
     ensures { Decides result (Fit b numbers.now) }
 {
-    numbers.iter().all(|number| u32::from(*number) >> b == 0)
+    are_below(1 << b, numbers)
 }
 
 // Packs levels that fit into all of `out`. It stands apart so that levels too wide are refused at its call.

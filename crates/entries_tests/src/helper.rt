@@ -22,7 +22,7 @@ pub(crate) fn buffer(bytes: &[u8]) -> Buffer<128> {
 pub(crate) fn counted(defs: &[u8]) -> PageMetrics {
     let mut metrics = PageMetrics::new::<ByteArray>(LAYOUT);
     for def in defs {
-        metrics.add_level(LAYOUT, 0, *def);
+        metrics.add_levels(LAYOUT, &[0], &[*def]);
     }
     metrics
 }

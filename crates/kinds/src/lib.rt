@@ -15,5 +15,5 @@ pub use cuts::{truncate_none_max, truncate_none_min};
 pub use descriptor::Descriptor;
 pub use kind::{Kind, admits_width};
 pub use physical::PhysicalType;
-pub use plain::{plain_size, put_plain, read_plain};
+pub use plain::{four_bytes, plain_size, put_plain, read_plain};
 pub use value::ValueOf;

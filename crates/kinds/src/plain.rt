@@ -28,8 +28,8 @@ pub fn put_plain(width: usize, value: &[u8], out: &mut [u8]) -> Option<usize>
     Some(size)
 }
 
-// A length as the format writes it before a BYTE_ARRAY.
-fn four_bytes(n: usize) -> [u8; 4]
+// A length as the format writes it before a BYTE_ARRAY, and before a list of levels.
+pub fn four_bytes(n: usize) -> [u8; 4]
     ensures { result ≡ four n }
 {
     let [a, b, c, d, ..] = n.to_le_bytes();

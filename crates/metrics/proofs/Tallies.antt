@@ -1,21 +1,18 @@
 -- A tally by its places: it is as long as it has levels, and at each level stands how often that occurs.
-use Rattle.std.proofs.Common.{◌≡◌, ℕ, suc, ◌+◌, ◌-◌, ◌^◌, ◌<◌, ◌≤◌, min, Bool, cond, eqb, ◌≢◌, List, [], ◌∷◌, ◌++◌, length, get_or, set, replicate, Some, None, count_by, sym, refl, take, add-one, ap, ◌∙◌, ⊎_elim, arith}
-use Rattle.std.proofs.lemmas.List.{ext_get_or, length-set, get_or-set_same, get_or-set_other, get_or-replicate, length-replicate, take-replicate}
-use Rattle.std.proofs.lemmas.List.Sums.{sum_by_push, count_by-le-length}
+use Rattle.std.proofs.Common.{◌≡◌, ℕ, suc, ◌+◌, ◌-◌, ◌^◌, ◌<◌, ◌≤◌, min, Bool, true, false, not, cond, eqb, List, [], ◌∷◌, ◌++◌, length, get_or, replicate, Some, None, count_by, sym, refl, take, add-one, ap, ◌∙◌, ⊎_elim, arith}
+use Rattle.std.proofs.lemmas.List.{ext_get_or, get_or-replicate, length-replicate, take-replicate}
+use Rattle.std.proofs.lemmas.List.Sums.{sum_by-cons, count_by-le-length}
 use Rattle.std.proofs.lemmas.Option.{same_Some, none-some}
-use Rattle.std.proofs.lemmas.Bool.{cases_eq, cases_Bool, eq-eqb, ne_eqb}
+use Rattle.std.proofs.lemmas.Bool.{cases_Bool, ne_eqb}
 use Rattle.ledger.specs.Pages.{tally, counts}
 use Rattle.ledger.proofs.Joining.{length-tally, get_or-tally, count_by-append}
-use Rattle.metrics.specs.Histograms.{one_more, Added}
+use Rattle.metrics.specs.Histograms.{Grown, Added}
 
 -- a list with the counts of a tally is that tally
 pub tally_from_get_or : (cs : List ℕ) (k : ℕ) (ls : List ℕ) → length cs ≡ k → ((i : ℕ) → i < k → get_or cs i 0 ≡ count_by (eqb i) ls) → cs ≡ tally k ls
 tally_from_get_or cs k ls n at =
     ext_get_or 0 cs (tally k ls) (n ∙ sym (length-tally k ls))
     (λ i h. let lt : i < k = omega (arith, n, h) in at i lt ∙ sym (get_or-tally k ls i lt))
-
-pub count_by_push : {X : Type 0} (p : X → Bool) (xs : List X) (y : X) → count_by p (xs ++ (y ∷ [])) ≡ count_by p xs + cond (p y) 1 0
-count_by_push p xs y = sum_by_push (λ x. cond (p x) 1 0) xs y
 
 -- a sum below the highest count is kept as it is
 pub min_below : (n : ℕ) → n < 2 ^ 64 → min n (2 ^ 64 - 1) ≡ n
@@ -30,34 +27,34 @@ sum-joined p xs ys a b r few ea eb er =
     er ∙ min_below (a + b) (omega (arith, ea, eb, lx, ly, few))
     ∙ ap (λ k. k + b) ea ∙ ap (λ k. count_by p xs + k) eb ∙ sym (count_by-append p xs ys)
 
+one_each : (b : Bool) → cond (not b) 1 0 + cond b 1 0 ≡ 1
+one_each true = refl
+one_each false = refl
+
+-- what is not counted is the rest
+count_others : {X : Type 0} (p : X → Bool) (xs : List X) → count_by (λ x. not (p x)) xs + count_by p xs ≡ length xs
+count_others p [] = refl
+count_others p (x ∷ xs) =
+    let rest = count_others p xs in
+    let one = sum_by-cons (λ y. cond (not (p y)) 1 0) x xs in
+    let other = sum_by-cons (λ y. cond (p y) 1 0) x xs in
+    omega (arith, rest, one, other, one_each (p x))
+
+pub others_counted : (most : ℕ) (ds : List ℕ) (n : ℕ) → n ≡ count_by (eqb most) ds → length ds - n ≡ count_by (λ d. not (eqb most d)) ds
+others_counted most ds n e = omega (arith, e, count_others (eqb most) ds)
+
 -- no level, and every count 0
 pub tally_none : (k : ℕ) → replicate k 0 ≡ tally k []
 tally_none k = tally_from_get_or (replicate k 0) k [] (length-replicate k 0) (λ i h. get_or-replicate k i 0 0 h)
 
--- one level more
-pub one_more-tally : (k : ℕ) (ls : List ℕ) (level : ℕ) → length ls + 1 < 2 ^ 64 → one_more (tally k ls) level ≡ tally k (ls ++ (level ∷ []))
-one_more-tally k ls level few =
-    let cs : List ℕ = tally k ls in
-    let n = length-tally k ls in
-    let v : ℕ = min (get_or cs level 0 + 1) (2 ^ 64 - 1) in
-    tally_from_get_or (one_more cs level) k (ls ++ (level ∷ [])) (length-set cs level v ∙ n)
-    (λ i h. ⊎_elim
-    (λ (e : i ≡ level).
-    let lt : level < k = omega (arith, e, h) in
-    let old : get_or cs level 0 ≡ count_by (eqb level) ls = get_or-tally k ls level lt in
-    let le = count_by-le-length (eqb level) ls in
-    ap (λ j. get_or (set cs level v) j 0) e ∙ get_or-set_same cs level v 0 (omega (arith, n, lt))
-    ∙ min_below (get_or cs level 0 + 1) (omega (arith, old, le, few)) ∙ ap (λ c. c + 1) old
-    ∙ ap (λ b. count_by (eqb level) ls + cond b 1 0) (sym (eq-eqb level level refl))
-    ∙ sym (count_by_push (eqb level) ls level) ∙ ap (λ j. count_by (eqb j) (ls ++ (level ∷ []))) (sym e))
-    (λ (ne : i ≢ level).
-    let new = count_by_push (eqb i) ls level in
-    get_or-set_other cs level i v 0 ne ∙ get_or-tally k ls i h
-    ∙ omega (arith, new, ap (λ b. count_by (eqb i) ls + cond b 1 0) (ne_eqb i level ne)))
-    (cases_eq i level))
-
-pub one_more_joined : (k : ℕ) (ls : List ℕ) (level : ℕ) (old new : List ℕ) → length ls + 1 < 2 ^ 64 → old ≡ tally k ls → new ≡ one_more old level → new ≡ tally k (ls ++ (level ∷ []))
-one_more_joined k ls level old new few e n = n ∙ ap (λ cs. one_more cs level) e ∙ one_more-tally k ls level few
+-- levels more
+pub grown-tally : (k : ℕ) (xs ys old new : List ℕ) → length xs + length ys < 2 ^ 64 → old ≡ tally k xs → Grown old ys new → new ≡ tally k (xs ++ ys)
+grown-tally k xs ys old new few ex g =
+    let n : length old ≡ k = ap length ex ∙ length-tally k xs in
+    tally_from_get_or new k (xs ++ ys) (g.levels ∙ n)
+    (λ i h.
+    let x : get_or old i 0 ≡ count_by (eqb i) xs = ap (λ cs. get_or cs i 0) ex ∙ get_or-tally k xs i h in
+    sum-joined (eqb i) xs ys (get_or old i 0) (count_by (eqb i) ys) (get_or new i 0) few x refl (g.sums i (omega (arith, n, h))))
 
 -- two lists of levels
 pub added-tally : (k : ℕ) (xs ys old other new : List ℕ) → length xs + length ys < 2 ^ 64 → old ≡ tally k xs → other ≡ tally k ys

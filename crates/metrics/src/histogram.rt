@@ -1,7 +1,8 @@
-ghost use Rattle.std.specs.Prelude.{◌≡◌, ℕ, ◌+◌, ◌-◌, ◌^◌, ◌<◌, ◌≤◌, min, List, [], ◌∷◌, ◌++◌, length, if◌then◌else◌, None, nat_lt, slice_index};
+ghost use Rattle.std.specs.Prelude.{◌≡◌, ℕ, ◌+◌, ◌^◌, ◌<◌, ◌≤◌, List, [], ◌++◌, length, if◌then◌else◌, None, nat_lt};
 ghost use Rattle.ledger.specs.Pages.{tally, counts};
-ghost use Rattle.metrics.specs.Histograms.{one_more, Added};
+ghost use Rattle.metrics.specs.Histograms.{Grown, Added};
 
+use counting::count_of;
 use std::marker::Model;
 
 // A count for each level from 0 to the maximum, in fixed memory, since nothing is allocated. A contract sees the list of
@@ -44,12 +45,12 @@ impl LevelHistogram {
         })
     }
 
-    // Counts one level more. One above the maximum is not counted.
-    pub fn update(&mut self, level: u8)
-        ensures value { self.new ≡ one_more self.old level }
-        ensures joined { (k : ℕ) (ls : List ℕ) → length ls + 1 < 2 ^ 64 → self.old ≡ tally k ls → self.new ≡ tally k (ls ++ (level ∷ [])) }
+    // Counts levels more. One above the maximum is not counted.
+    pub fn update_from_levels(&mut self, levels: &[u8])
+        ensures value { Grown self.old levels.now self.new }
+        ensures joined { (k : ℕ) (ls : List ℕ) → length ls + length levels.now < 2 ^ 64 → self.old ≡ tally k ls → self.new ≡ tally k (ls ++ levels.now) }
     {
-        count_level(&mut self.counts[..self.len], level);
+        count_levels(&mut self.counts[..self.len], levels);
     }
 
     // Adds the counts of another histogram, level by level.
@@ -68,14 +69,15 @@ impl LevelHistogram {
     }
 }
 
-// Counts one level more, up to the highest count. One that has no count is not counted.
-fn count_level(counts: &mut [u64], level: u8)
-    ensures { counts.new ≡ one_more counts.old level }
+// Counts levels more, each at its place, up to the highest count. One that has no count is not counted.
+fn count_levels(counts: &mut [u64], levels: &[u8])
+    requires { length counts.old ≤ 16 }
+    ensures { Grown counts.old levels.now counts.new }
 {
-    // by index, since a proof loses the counts after a `get_mut`
-    let place = usize::from(level);
-    if place < counts.len() {
-        counts[place] = counts[place].saturating_add(1);
+    // A pass for each count, since each takes a step for sixteen levels.
+    for (level, count) in counts.iter_mut().enumerate() {
+        // By `as`, since no `From` takes a `usize` to a `u64`, and a level fits a byte.
+        *count = count.saturating_add(count_of(level as u8, levels) as u64);
     }
 }
 
@@ -89,12 +91,12 @@ fn add_counts(counts: &mut [u64], others: &[u64])
     }
 }
 
-// Counts one level more in a histogram that may be absent.
-pub(crate) fn update_if_there(histogram: &mut Option<LevelHistogram>, level: u8)
-    ensures { (most : ℕ) (ls : List ℕ) → length ls + 1 < 2 ^ 64 → histogram.old ≡ counts most ls → histogram.new ≡ counts most (ls ++ (level ∷ [])) }
+// Counts levels more in a histogram that may be absent.
+pub(crate) fn update_if_there(histogram: &mut Option<LevelHistogram>, levels: &[u8])
+    ensures { (most : ℕ) (ls : List ℕ) → length ls + length levels.now < 2 ^ 64 → histogram.old ≡ counts most ls → histogram.new ≡ counts most (ls ++ levels.now) }
 {
     if let Some(histogram) = histogram {
-        histogram.update(level);
+        histogram.update_from_levels(levels);
     }
 }
 

@@ -1,4 +1,4 @@
-ghost use Rattle.std.specs.Prelude.{◌≡◌, ℕ, ◌+◌, ◌-◌, ◌^◌, ◌<◌, ◌≤◌, min, List, [], ◌∷◌, length};
+ghost use Rattle.std.specs.Prelude.{◌≡◌, ℕ, ◌+◌, ◌-◌, ◌^◌, ◌<◌, ◌≤◌, ◌==◌, min, not, List, [], length, count_by, nat_eq};
 ghost use Rattle.std.specs.Option.{option_map};
 ghost use Rattle.kinds.specs.Meaning.{Meaning};
 ghost use Rattle.figures.specs.Figures.{nan_count_of};
@@ -7,6 +7,7 @@ ghost use Rattle.ledger.specs.Pages.{Page, blank, join};
 ghost use Rattle.metrics.specs.Metrics.{Measures};
 
 use crate::histogram::{LevelHistogram, update_if_there};
+use counting::count_of;
 use kinds::Kind;
 use pages::Layout;
 
@@ -37,17 +38,18 @@ impl PageMetrics {
         }
     }
 
-    // Counts one level more of each kind.
-    pub fn add_level(&mut self, layout: Layout, rep: u8, def: u8)
-        ensures { (m : Meaning) (p : Page) → length p.reps < 2 ^ 32 → length p.defs < 2 ^ 32 → Measures m layout p self.old → Measures m layout (join p (record { reps = rep ∷ []; defs = def ∷ []; values = [] })) self.new }
+    // Counts levels more of each kind.
+    pub fn add_levels(&mut self, layout: Layout, reps: &[u8], defs: &[u8])
+        ensures { (m : Meaning) (p : Page) → length p.reps + length reps.now < 2 ^ 32 → length p.defs + length defs.now < 2 ^ 32 → Measures m layout p self.old → Measures m layout (join p (record { reps = reps.now; defs = defs.now; values = [] })) self.new }
     {
-        self.num_buffered_values = self.num_buffered_values.saturating_add(1);
-        self.num_buffered_rows = self.num_buffered_rows.saturating_add(u64::from(rep == 0));
+        // `as u64`, here and below, since no `From` takes a `usize` to a `u64`.
+        self.num_buffered_values = self.num_buffered_values.saturating_add(defs.len() as u64);
+        self.num_buffered_rows = self.num_buffered_rows.saturating_add(row_count(reps));
         self.num_page_nulls = self
             .num_page_nulls
-            .saturating_add(u64::from(def != layout.max_def_level));
-        update_if_there(&mut self.repetition_level_histogram, rep);
-        update_if_there(&mut self.definition_level_histogram, def);
+            .saturating_add(null_count(layout.max_def_level, defs));
+        update_if_there(&mut self.repetition_level_histogram, reps);
+        update_if_there(&mut self.definition_level_histogram, defs);
     }
 
     // Counts the NaN of values that the page takes.
@@ -56,6 +58,20 @@ impl PageMetrics {
     {
         self.num_page_nans = more_nans(self.num_page_nans, nans);
     }
+}
+
+// How many rows repetition levels begin.
+fn row_count(reps: &[u8]) -> u64
+    ensures { result ≡ count_by (nat_eq 0) reps.now }
+{
+    count_of(0, reps) as u64
+}
+
+// How many definition levels are nulls: all but those at the maximum.
+fn null_count(max_def_level: u8, defs: &[u8]) -> u64
+    ensures { result ≡ count_by (λ d. not (max_def_level == d)) defs.now }
+{
+    (defs.len() - count_of(max_def_level, defs)) as u64
 }
 
 // More NaN counted, where they are counted at all. By itself, so that its equation is proved here, without the page.

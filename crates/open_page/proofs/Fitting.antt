@@ -1,13 +1,11 @@
 -- The levels of a page within its limits fit a page's lists, and its plain bytes are whole values.
-use Rattle.std.proofs.Common.{◌≡◌, ℕ, ◌+◌, ◌*◌, ◌%◌, ◌^◌, ◌<◌, ◌≤◌, true, eqb, List, [], ◌∷◌, ◌++◌, length, drop, Some, None, Option, sym, ap, ◌∙◌, subst, ⊎_elim, suc-mul, zero-mul, arith}
+use Rattle.std.proofs.Common.{◌≡◌, ℕ, ◌+◌, ◌*◌, ◌%◌, ◌^◌, ◌<◌, ◌≤◌, true, eqb, List, ◌++◌, length, drop, Some, None, Option, sym, ap, ◌∙◌, subst, ⊎_elim, arith}
 use Rattle.std.specs.List.{AllByRecursion}
 use Rattle.std.proofs.ByRecursion.{All-weaker}
-use Rattle.std.proofs.lemmas.List.{length-append}
 use Rattle.std.proofs.lemmas.Nat.{mod-mul-add}
 use Rattle.std.proofs.lemmas.Bool.{cond-true, cond-false, eq-eqb, ne_eqb, cases_eq, cases_lt}
-use Rattle.kinds.specs.Plain.{plain, sized, Laid}
+use Rattle.kinds.specs.Plain.{sized, Laid}
 use Rattle.level_coder.specs.Coding.{Coding}
-use Rattle.kinds.proofs.Plains.{plain_fixed, sized_fixed}
 use Rattle.body_coder.specs.Body.{Body, whole}
 use Rattle.pages.specs.declared.layout.Layout.{Layout}
 use Rattle.pages.specs.Layout.{page_bytes, page_size, PageSize, SizeIsLength}
@@ -15,6 +13,7 @@ use Rattle.pages.specs.Pages.{ListFits, PageFits, Assembled}
 use Rattle.pages.specs.Widths.{bit_length}
 use Rattle.pages.proofs.Bits.{wide_enough}
 use Rattle.ledger.specs.Pages.{Page, plains}
+use Rattle.intake.proofs.Weights.{plains_fixed}
 use Rattle.open_page.specs.Pages.{Allowed, WellFormed, Joinable}
 use Rattle.open_page.specs.Opened.{Sized}
 
@@ -25,12 +24,6 @@ list_fits most ls narrow few range = record {
   fit = All-weaker (λ x. x ≤ most) (λ x. x < 2 ^ bit_length most) (λ x h. omega (arith, wide_enough most narrow)) ls range;
 }
 
--- values of one width have that many plain bytes each
-plains_long : (w : ℕ) (vs : List (List ℕ)) → 0 < w → AllByRecursion (λ v. sized w v ≡ true) vs → length (plains w vs) ≡ length vs * w
-plains_long w [] some h = sym (zero-mul w)
-plains_long w (v ∷ vs) some h =
-    omega (arith, suc-mul (length vs) w, length-append (plain w v) (plains w vs), ap length (plain_fixed w v some), sized_fixed w v some h.0, plains_long w vs some h.1)
-
 pub plains_whole : (b : Body) (l : Layout) (vs : List (List ℕ)) → Joinable b l → AllByRecursion (λ v. sized l.width v ≡ true) vs
     → whole b.joins l.width (length (plains l.width vs)) ≡ true
 plains_whole b l vs joins sizes =
@@ -40,7 +33,7 @@ plains_whole b l vs joins sizes =
     (λ z. cond-true (eqb w 0) b.joins (eqb (n % w) 0) (eq-eqb w 0 z) ∙ joins z)
     (λ z.
     let some : 0 < w = omega arith in
-    let long : n ≡ length vs * w + 0 = omega (arith, plains_long w vs some sizes) in
+    let long : n ≡ length vs * w + 0 = omega (arith, plains_fixed w vs some sizes) in
     let rest : n % w ≡ 0 = ap (λ k. k % w) long ∙ mod-mul-add (length vs) w 0 some in
     cond-false (eqb w 0) b.joins (eqb (n % w) 0) (ne_eqb w 0 z) ∙ eq-eqb (n % w) 0 rest)
     (cases_eq w 0)

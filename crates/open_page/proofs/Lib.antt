@@ -3,3 +3,4 @@ pub mod Pushing
 pub mod Filling
 pub mod Fitting
 pub mod Accepted
+pub mod Given

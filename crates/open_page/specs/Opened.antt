@@ -38,10 +38,10 @@ pub record Given (most n : ℕ) (given : Option (List ℤ)) : Type 0 where
   pub count : length (levels_at most n given) ≡ n
   pub range : AllByRecursion (λ x. x ≤ most) (levels_at most n given)
 
--- levels of both kinds are added to any page that has room for them
+-- levels of both kinds, as many as a batch may have, are added to any page that has room for them
 abbrev pub LevelsAdded : Layout → ℕ → Option (List ℤ) → Option (List ℤ) → OpenPage → OpenPage → Type 0
 LevelsAdded l n reps defs old new =
-    (m : Meaning) (p : Page) → Given l.max_rep_level n reps → Given l.max_def_level n defs → length p.reps + n ≤ 1024 → length p.defs + n ≤ 1024 → Holds m l p old
+    (m : Meaning) (p : Page) → n ≤ 256 → Given l.max_rep_level n reps → Given l.max_def_level n defs → length p.reps + n ≤ 1024 → length p.defs + n ≤ 1024 → Holds m l p old
     → Holds m l (join p (slots (levels_at l.max_rep_level n reps) (levels_at l.max_def_level n defs))) new
 
 -- values are added to any page that has room for them

@@ -1,4 +1,4 @@
-ghost use Rattle.std.specs.Prelude.{◌≡◌, ℕ, ◌+◌, ◌<◌, ◌≤◌, [], ◌∷◌, length, map, None};
+ghost use Rattle.std.specs.Prelude.{◌≡◌, ℕ, ◌+◌, ◌≤◌, length, map, None};
 ghost use Rattle.kinds.specs.Meaning.{Meaning};
 ghost use Rattle.kinds.specs.Plain.{Laid};
 ghost use Rattle.figures.specs.Figures.{smallest, largest};
@@ -13,7 +13,7 @@ ghost use Rattle.metrics.specs.Metrics.{kept, Measures};
 ghost use Rattle.open_page.specs.Pages.{Allowed, Joinable};
 ghost use Rattle.open_page.specs.Opened.{slots, Holds, Opened, LevelsAdded, ValuesAdded, Sized};
 
-use crate::levels::level_at;
+use crate::levels::batch_levels;
 use crate::values::{first, put_values, take_max, take_min};
 use body_coder::BodyCoder;
 use buffers::Buffer;
@@ -89,22 +89,18 @@ impl OpenPage {
     fn write_levels(&mut self, layout: Layout, count: usize, reps: LevelDataRef, defs: LevelDataRef)
         ensures { LevelsAdded layout count (levels_of reps.entry) (levels_of defs.entry) self.old self.new }
     {
-        for at in 0..count {
-            self.push_level(
-                layout,
-                level_at(reps, layout.max_rep_level, at),
-                level_at(defs, layout.max_def_level, at),
-            );
-        }
+        let reps = batch_levels(reps, layout.max_rep_level, count);
+        let defs = batch_levels(defs, layout.max_def_level, count);
+        self.push_levels(layout, first(&reps, count), first(&defs, count));
     }
 
-    // Adds one level of each kind.
-    fn push_level(&mut self, layout: Layout, rep: u8, def: u8)
-        ensures { (m : Meaning) (p : Page) → length p.reps < 1024 → length p.defs < 1024 → Holds m layout p self.old → Holds m layout (join p (slots (rep ∷ []) (def ∷ []))) self.new }
+    // Adds levels of both kinds.
+    fn push_levels(&mut self, layout: Layout, reps: &[u8], defs: &[u8])
+        ensures { (m : Meaning) (p : Page) → length p.reps + length reps.now ≤ 1024 → length p.defs + length defs.now ≤ 1024 → Holds m layout p self.old → Holds m layout (join p (slots reps.now defs.now)) self.new }
     {
-        self.reps.extend(&[rep]);
-        self.defs.extend(&[def]);
-        self.metrics.add_level(layout, rep, def);
+        self.reps.extend(reps);
+        self.defs.extend(defs);
+        self.metrics.add_levels(layout, reps, defs);
     }
 
     // Adds values: their plain bytes, how many are NaN, and the smallest and the largest of them.

@@ -7,7 +7,7 @@ ghost use Rattle.ledger.specs.Pages.{plains};
 
 use buffers::Buffer;
 use figures::{update_max, update_min};
-use kinds::{Kind, ValueOf, put_plain};
+use kinds::{Kind, ValueOf, four_bytes};
 
 // So many of the values, from the first; none if there are not so many.
 pub(crate) fn first<V>(values: &[V], count: usize) -> &[V]
@@ -20,10 +20,12 @@ pub(crate) fn first<V>(values: &[V], count: usize) -> &[V]
 fn put_value<K: Kind, V: ValueOf<K>>(plain: &mut Buffer<8191>, width: usize, value: &V)
     ensures { width ≤ 128 → sized width (V.ValueOf.bytes value.now) ≡ true → length plain.old + length (plain_of width (V.ValueOf.bytes value.now)) ≤ 8191 → plain.new ≡ plain.old ++ plain_of width (V.ValueOf.bytes value.now) }
 {
-    let mut bytes = [0u8; 132];
-    if let Some(size) = put_plain(width, value.as_bytes(&mut [0; 8]), &mut bytes) {
-        plain.extend(&bytes[..size]);
+    let mut room = [0; 8];
+    let bytes = value.as_bytes(&mut room);
+    if width == 0 {
+        plain.extend(&four_bytes(bytes.len()));
     }
+    plain.extend(bytes);
 }
 
 // Puts the plain bytes of values behind others, one value after the other.

@@ -1,10 +1,11 @@
 ghost use Rattle.std.specs.Prelude.{◌≡◌, ◌^◌, ◌<◌, ◌&&◌, ◌==◌, nat_eq, length, drop, count_by, MatchOption, if◌then◌else◌};
-ghost use Rattle.kinds.specs.Plain.{four};
 ghost use Rattle.pages.specs.Layout.{level_part, level_size_of, LevelSize};
 ghost use Rattle.pages.specs.Pages.{ListFits, Measured};
 ghost use Rattle.pages.specs.Reading.{list_count, ListAt, NoListAt};
 ghost use Rattle.pages.specs.Widths.{bit_length};
 
+use counting::{are_below, count_of};
+use kinds::four_bytes;
 use level_coder::{LevelCoder, bit_width};
 
 // What a level list's bytes depend on besides its levels.
@@ -45,7 +46,7 @@ impl ListForm {
         if self.max == 0 {
             return n;
         }
-        levels.iter().filter(|level| self.max == **level).count()
+        count_of(self.max, levels)
     }
 
     // How many bytes `n` levels take.
@@ -71,8 +72,7 @@ impl ListForm {
         ensures { Measured L.LevelCoder.coding self.version self.max levels.now result }
     {
         let size = self.size::<L>(levels.len())?;
-        let limit = 1u8 << self.width();
-        levels.iter().all(|l| *l < limit).then_some(size)
+        are_below(1 << self.width(), levels).then_some(size)
     }
 
     // Writes levels over bytes that are as many as theirs.
@@ -87,7 +87,7 @@ impl ListForm {
         // The call stands twice, since of a list that one of two branches lends a proof loses what it then holds.
         if self.has_length::<L>() {
             let (length, coded) = out.split_at_mut(4);
-            length.copy_from_slice(&length_bytes(coded.len()));
+            length.copy_from_slice(&four_bytes(coded.len()));
             L::code(levels, self.width(), coded).unwrap();
         } else {
             L::code(levels, self.width(), out).unwrap();
@@ -115,20 +115,11 @@ impl ListForm {
         }
         let coded = if self.has_length::<L>() {
             let size = L::size(n, self.width())?;
-            bytes.strip_prefix(&length_bytes(size))?
+            bytes.strip_prefix(&four_bytes(size))?
         } else {
             bytes
         };
         let size = L::read(coded, n, self.width(), levels)?;
         Some(&coded[size..])
     }
-}
-
-// A list's length as it stands before the list, in four little-endian bytes.
-fn length_bytes(n: usize) -> [u8; 4]
-    requires { n < 2 ^ 32 }
-    ensures { result ≡ four n }
-{
-    // It fits 32 bits, as the `requires` says, so `as` loses nothing.
-    (n as u32).to_le_bytes()
 }

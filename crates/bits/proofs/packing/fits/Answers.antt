@@ -1,19 +1,14 @@
-use Rattle.std.proofs.Common.{ℕ, ◌/◌, ◌^◌, ◌<◌, Bool, eqb, Decides, refl, rules, tests, arith}
+use Rattle.std.proofs.Common.{◌*◌, ◌%◌, ◌^◌, ◌<◌, ℕ, Bool, ltb, Decides, refl, subst, arith}
 use Rattle.std.specs.List.{list_all}
 use Rattle.std.proofs.ByRecursion.{Decides-by_and}
-use Rattle.std.proofs.lemmas.Bool.Decides.{Decides-at, Decides-like, Decides-eqb}
-use Rattle.std.proofs.lemmas.Iterator.{YieldsList-from_slice}
-use Rattle.std.proofs.lemmas.Iterator.Search.{all_from_yields_List}
-use Rattle.std.proofs.lemmas.Nat.{shr_below}
-use Rattle.bits.proofs.Words.{under}
+use Rattle.std.proofs.lemmas.Bool.Decides.{Decides-at, Decides-ltb}
+use Rattle.std.proofs.lemmas.Nat.{one_shl}
 use Rattle.bits.proofs.packing.fits.Goals as goal
-
--- a number of at most b bits has none left behind them
-none_left : (b n : ℕ) → Decides (eqb (n / 2 ^ b) 0) (n < 2 ^ b)
-none_left b n = Decides-like _ (λ e. under n b (omega arith)) (λ h. let l = shr_below n 0 b (grind arith) in omega arith) (Decides-eqb (n / 2 ^ b) 0)
 
 pub returns : goal.returns
 returns c =
-    let test : ℕ → Bool = λ n. eqb (n / 2 ^ c.args.b) 0 in
-    Decides-at _ _ (all_from_yields_List test _ _ _ c.all.ensures.ran (YieldsList-from_slice c.args.numbers.now cc) (λ x b q k. search (rules, tests)))
-    (Decides-by_and test (λ n. n < 2 ^ c.args.b) (list_all test) (none_left c.args.b) refl (λ _ _. refl) c.args.numbers.now)
+    let b = c.args.b in
+    let limit = 1 * 2 ^ b % 256 in
+    let test : ℕ → Bool = λ n. ltb n limit in
+    let each : (n : ℕ) → Decides (test n) (n < 2 ^ b) = λ n. subst (λ m. Decides (ltb n limit) (n < m)) (one_shl b 8 (omega arith)) (Decides-ltb n limit) in
+    Decides-at _ _ c.are_below.ensures (Decides-by_and test (λ n. n < 2 ^ b) (list_all test) each refl (λ _ _. refl) c.args.numbers.now)

@@ -1,12 +1,18 @@
+use Rattle.std.proofs.Common.{◌≡◌, List, ℕ, length, ap, ◌∙◌, subst, arith}
 use Rattle.level_data.specs.Levels.{levels_of}
-use Rattle.open_page.proofs.Pushing.{more_levels, all_levels}
+use Rattle.ledger.specs.Pages.{join}
+use Rattle.ledger.specs.Batches.{levels_at}
+use Rattle.open_page.specs.Opened.{Holds, slots}
 use Rattle.open_page.proofs.page.OpenPage.write_levels.Goals as goal
 
-pub loop-at-preserved : goal.loop-at-preserved
-loop-at-preserved c =
-    more_levels c.args.layout c.args.count (levels_of c.args.reps) (levels_of c.args.defs) c.args.self.now c.loop-at.at c.level_at.result c.level_at-in-loop-at.result c.loop-at.self c.push_level.new.self
-    c.loop-at-test.true c.loop-at.invariant c.level_at.ensures c.level_at-in-loop-at.ensures c.push_level.ensures
-
 pub returns : goal.returns
-returns c =
-    all_levels c.args.layout c.args.count (levels_of c.args.reps) (levels_of c.args.defs) c.args.self.now c.loop-at.at c.loop-at.self c.loop-at-test.false c.loop-at.invariant
+returns c = λ m p few rg dg rf df h.
+    let l = c.args.layout in
+    let n = c.args.count in
+    let rs : List ℕ = levels_at l.max_rep_level n (levels_of c.args.reps) in
+    let ds : List ℕ = levels_at l.max_def_level n (levels_of c.args.defs) in
+    let er : c.first.result.now ≡ rs = c.first.ensures (omega arith) ∙ c.batch_levels-reps.ensures few rg in
+    let ed : c.first-2.result.now ≡ ds = c.first-2.ensures (omega arith) ∙ c.batch_levels-defs.ensures few dg in
+    subst (λ x. Holds m l (join p (slots x ds)) c.push_levels.new.self) er
+    (subst (λ x. Holds m l (join p (slots c.first.result.now x)) c.push_levels.new.self) ed
+    (c.push_levels.ensures m p (omega (arith, ap length er, rg.count, rf)) (omega (arith, ap length ed, dg.count, df)) h))

@@ -26,7 +26,7 @@ returns g c = λ p o a n few light.
     let is : ws ≡ values_of l b = ap (map bytes) (c.first.ensures there) ∙ sym (take-map bytes c.args.needed given) ∙ ap (λ k. take k b.values) n in
     let room : length p.defs + c.args.batch.count ≤ 1024 = few in
     let mid : Holds m l (join p (slots rs ds)) c.write_levels.new.self =
-    c.write_levels.ensures m p
+    c.write_levels.ensures m p a.few
     (record { count = a.rep_count; range = a.rep_range })
     (record { count = a.def_count; range = a.def_range })
     (omega (arith, room, o.well.paired)) room o.holds in

@@ -11,8 +11,8 @@ pub returns-in_err-coded : goal.returns-in_err-coded
 returns-in_err-coded g c =
     rw c.from_residual-in_err-coded.ensures
     (no_list g.L.LevelCoder.coding c.args.self.version c.args.self.max c.args.n c.width.result true c.args.bytes.now c.if-self-eq0.false (omega arith)
-    c.width.ensures c.if-has_length.ensures c.length_bytes.result (c.length_bytes.ensures ∙ ap four c.in_ok-size.ensures.0)
-    (strip_prefix_is Decides-eqb c.args.bytes.now c.length_bytes.result None c.in_err-coded.ensures.cases))
+    c.width.ensures c.if-has_length.ensures c.four_bytes.result (c.four_bytes.ensures ∙ ap four c.in_ok-size.ensures.0)
+    (strip_prefix_is Decides-eqb c.args.bytes.now c.four_bytes.result None c.in_err-coded.ensures.cases))
 
 pub slice_bounds-result-count : goal.slice_bounds-result-count
 slice_bounds-result-count g c =
@@ -36,9 +36,9 @@ returns g c =
       | then-has_length+in_ok-size+in_ok-coded v ↦ (
         true,
         v.if-has_length.ensures,
-        strip_prefix_is Decides-eqb bytes v.length_bytes.result (Some v.in_ok-coded.coded) v.in_ok-coded.ensures.cases
+        strip_prefix_is Decides-eqb bytes v.four_bytes.result (Some v.in_ok-coded.coded) v.in_ok-coded.ensures.cases
             ∙ ap (λ x. x ++ v.in_ok-coded.coded.now)
-            (v.length_bytes.ensures ∙ ap four (v.in_ok-size.ensures.0 ∙ ap (coding.size n) (v.width.ensures ∙ sym c.width-2.ensures)))
+            (v.four_bytes.ensures ∙ ap four (v.in_ok-size.ensures.0 ∙ ap (coding.size n) (v.width.ensures ∙ sym c.width-2.ensures)))
             ∙ ap (λ x. four (coding.size n w) ++ x.now) (sym v.coded-is),
       )
       | else-has_length v ↦ (false, v.if-has_length.ensures, sym (ap (λ x. x.now) v.coded-is))
