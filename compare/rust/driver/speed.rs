@@ -159,12 +159,14 @@ struct Shape {
     name: &'static str,
     max_def: i16,
     max_rep: i16,
+    is_rising: bool,
 }
 
-const SHAPES: [Shape; 3] = [
-    Shape { name: "flat", max_def: 0, max_rep: 0 },
-    Shape { name: "optional", max_def: 1, max_rep: 0 },
-    Shape { name: "nested", max_def: 2, max_rep: 1 },
+const SHAPES: [Shape; 4] = [
+    Shape { name: "flat", max_def: 0, max_rep: 0, is_rising: false },
+    Shape { name: "rising", max_def: 0, max_rep: 0, is_rising: true },
+    Shape { name: "optional", max_def: 1, max_rep: 0, is_rising: false },
+    Shape { name: "nested", max_def: 2, max_rep: 1, is_rising: false },
 ];
 
 const KINDS: [(u8, &str); 3] = [(1, "INT32"), (6, "DOUBLE"), (8, "BYTE_ARRAY")];
@@ -172,7 +174,7 @@ const KINDS: [(u8, &str); 3] = [(1, "INT32"), (6, "DOUBLE"), (8, "BYTE_ARRAY")];
 const SIZES: [usize; 4] = [512, 1024, 2048, 4096];
 
 /// The last three lines of an input: one level in eight is null where D is above 0; rows of a nested column have four levels on
-/// average; values are random, of 4 to 7 bytes where they are byte strings.
+/// average; values are random, of 4 to 7 bytes where they are byte strings, or each above the one before.
 fn work(kind: u8, shape: Shape, count: usize) -> String {
     let mut random = Random::new(7);
     let (mut defs, mut reps, mut values) = (String::new(), String::new(), vec![]);
@@ -191,6 +193,9 @@ fn work(kind: u8, shape: Shape, count: usize) -> String {
         }
         if def == shape.max_def as usize {
             values.push(match kind {
+                1 if shape.is_rising => hex(&(at as i32).to_le_bytes()),
+                6 if shape.is_rising => hex(&(at as f64 / 64.0).to_le_bytes()),
+                _ if shape.is_rising => hex(&(at as u32).to_be_bytes()),
                 1 => hex(&(random.next() as i32).to_le_bytes()),
                 6 => hex(&(random.next() as i32 as f64 / 64.0).to_le_bytes()),
                 _ => {
