@@ -1,5 +1,5 @@
 #!/usr/bin/env python3
-"""Says what the gate spends on each crate: tools/costs.py [COMMAND..], by default .ci/run.
+"""Says what the gate spends on each crate: python3 tools/costs.py [COMMAND..], by default .ci/run.
 
 Runs the command in the repository, prints what it prints, and then a table: for each crate its functions, its must-fail edits, and the
 processor seconds of its proofs and of its edits. What a run before has passed on a machine is not done again, so for a table of all of it
