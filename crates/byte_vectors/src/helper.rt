@@ -3,7 +3,7 @@ use std::process::Abort;
 
 // Checks both bounds of a value: the lower one is cut exactly if it is shorter, and the upper one is absent where the
 // value stays whole.
-pub fn bounds<K: Kind>(
+pub(crate) fn bounds<K: Kind>(
     rt: &impl Abort,
     value: &[u8],
     length: usize,
@@ -23,13 +23,13 @@ pub fn bounds<K: Kind>(
 }
 
 // Checks that a is greater than b, and not the other way round.
-pub fn greater<K: Kind>(rt: &impl Abort, a: &[u8], b: &[u8]) {
+pub(crate) fn greater<K: Kind>(rt: &impl Abort, a: &[u8], b: &[u8]) {
     assert!(rt; K::compare_greater(a, b));
     assert!(rt; !K::compare_greater(b, a));
 }
 
 // Checks that neither is greater.
-pub fn level<K: Kind>(rt: &impl Abort, a: &[u8], b: &[u8]) {
+pub(crate) fn level<K: Kind>(rt: &impl Abort, a: &[u8], b: &[u8]) {
     assert!(rt; !K::compare_greater(a, b));
     assert!(rt; !K::compare_greater(b, a));
 }
