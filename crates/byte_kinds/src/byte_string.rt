@@ -1,5 +1,6 @@
 ghost use Rattle.std.specs.Prelude.{false};
 ghost use Rattle.std.proofs.Common.{rules};
+ghost use Rattle.std.proofs.lemmas.Bool.{false≢true};
 ghost use Rattle.byte_kinds.specs.Kinds.{on};
 
 use crate::content::Content;
@@ -36,12 +37,24 @@ impl<C: Content, S: Storage, const N: u8> Kind for ByteString<C, S, N> {
 
     ghost described = { Prim.search rules };
 
+    const HAS_RANKS: bool = false;
+
+    ghost HAS_RANKS = { false };
+
+    ghost rank = { λ _. 0 };
+
+    ghost ranks_law = { λ has. absurd (false≢true has) };
+
     fn is_nan(_value: &[u8]) -> bool {
         Self::HAS_NAN
     }
 
     fn compare_greater(a: &[u8], b: &[u8]) -> bool {
         C::compare_greater(a, b)
+    }
+
+    fn rank(_value: &[u8]) -> u64 {
+        0
     }
 
     fn truncate_min_value(value: &[u8], length: usize) -> (usize, bool) {

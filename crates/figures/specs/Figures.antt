@@ -1,7 +1,7 @@
 -- Figures of a list of values: smallest, largest and how many are NaN.
-use Rattle.std.specs.Prelude.{◌≡◌, ℕ, ◌+◌, Bool, true, false, cond, not, ◌&&◌, List, [], ◌∷◌, ◌++◌, Some, None, Option}
+use Rattle.std.specs.Prelude.{◌≡◌, ℕ, ◌+◌, Bool, true, false, cond, not, List, [], ◌∷◌, ◌++◌, Some, None, Option}
 use Rattle.std.specs.Borrow.{Bor}
-use Rattle.std.specs.List.{list_any, filter, find, prefix_len}
+use Rattle.std.specs.List.{list_any, filter, find}
 use Rattle.kinds.specs.Meaning.{Meaning, greater}
 use Rattle.figures.specs.declared.min_max.MinMax.{MinMax}
 
@@ -37,16 +37,6 @@ replaces true true above = above
 replaces true false above = true
 replaces false true above = false
 replaces false false above = above
-
--- a number between two others changes neither of them if these are the smallest and the largest
-abbrev pub between : Meaning → List ℕ → List ℕ → List ℕ → Bool
-between m lo hi v = not (m.nan lo) && not (m.nan hi) && not (m.nan v) && not (greater m lo v) && not (greater m v hi)
-
--- of these values so many, from the first on, lie between the figures, if there are figures
-abbrev pub Kept : {V : Type 0} → Meaning → (V → List ℕ) → Option V → Option V → List V → ℕ → Type 0
-Kept m bytes (Some lo) (Some hi) vs k = k ≡ prefix_len (λ v. between m (bytes lo) (bytes hi) (bytes v)) vs
-Kept m bytes (Some lo) None vs k = k ≡ 0
-Kept m bytes None hi vs k = k ≡ 0
 
 -- of the figures of two lists, the one that the joined list has
 abbrev pub merged : (List ℕ → Bool) → (List ℕ → List ℕ → Bool) → Option (List ℕ) → Option (List ℕ) → Option (List ℕ)
@@ -90,6 +80,15 @@ pub record FiguresOf {V : Type 0} (m : Meaning) (bytes : V → List ℕ) (vs : L
   pub min : smallest m vs ≡ Some (bytes r.min)
   pub max : largest m vs ≡ Some (bytes r.max)
   pub nans : r.nan_count ≡ nan_count_of m vs
+
+-- whether a figure is there and no NaN
+abbrev pub is_number : {V : Type 0} → Meaning → (V → List ℕ) → Option V → Bool
+is_number m bytes None = false
+is_number m bytes (Some v) = not (m.nan (bytes v))
+
+-- smallest and largest are no NaN
+abbrev pub AreNumbers : {V : Type 0} → Meaning → (V → List ℕ) → MinMax V → Type 0
+AreNumbers m bytes r = (m.nan (bytes r.min) ≡ false) × (m.nan (bytes r.max) ≡ false)
 
 -- absent exactly for the empty list
 abbrev pub Found : {V : Type 0} → Meaning → (V → List ℕ) → List (List ℕ) → Option (MinMax V) → Type 0

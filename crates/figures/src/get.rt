@@ -1,9 +1,9 @@
-ghost use Rattle.std.specs.Prelude.{◌≡◌, ◌+◌, ◌^◌, ◌<◌, cond, not, map, position};
-ghost use Rattle.std.specs.List.{prefix_len};
+ghost use Rattle.std.specs.Prelude.{◌≡◌, ℕ, ◌+◌, ◌^◌, ◌<◌, ◌&&◌, List, cond, map, length, ◌++◌};
 ghost use Rattle.std.specs.Option.{option_map};
-ghost use Rattle.figures.specs.Figures.{Found, Joins, MinUpdated, MaxUpdated, between, Kept};
+ghost use Rattle.figures.specs.Figures.{Found, FiguresOf, Joins, MinUpdated, MaxUpdated, AreNumbers, is_number};
 
 use crate::min_max::MinMax;
+use crate::ranked::{higher, lesser, with_rank};
 use crate::update::{is_nan, update_max, update_min};
 use kinds::{Kind, ValueOf};
 
@@ -17,53 +17,60 @@ pub fn get_min_max<K: Kind, V: ValueOf<K> + Copy>(values: &[V]) -> Option<MinMax
     let mut max = None;
     let mut nan_count = 0;
     let mut at = 0;
-    while at < values.len() {
+    // as long as there is no number
+    while at < values.len() && !are_numbers::<K, V>(&min, &max) {
         update_all::<K, V>(&values[at], &mut min, &mut max, &mut nan_count);
         at += 1;
-        at += count_kept::<K, V>(&values[at..], &min, &max);
     }
-    Some(MinMax {
+    let figures = MinMax {
         min: min?,
         max: max?,
         nan_count,
-    })
+    };
+    Some(add_to_numbers::<K, V>(figures, &values[at..]))
 }
 
-// How many values, from the first on, change neither of the two figures.
-fn count_kept<K: Kind, V: ValueOf<K>>(values: &[V], min: &Option<V>, max: &Option<V>) -> usize
-    ensures { Kept K.Kind.meaning V.ValueOf.bytes min.now max.now values.now result }
+// Takes values into figures that are numbers, so that NaN is counted and nothing else. By values, and not by references, so
+// that the compiler keeps the figures where it compares them.
+fn add_to_numbers<K: Kind, V: ValueOf<K> + Copy>(figures: MinMax<V>, values: &[V]) -> MinMax<V>
+    requires few { figures.nan_count + length values.now < 2 ^ 64 }
+    requires numbers { 0 < length values.now → AreNumbers K.Kind.meaning V.ValueOf.bytes figures }
+    ensures { (vs : List (List ℕ)) → FiguresOf K.Kind.meaning V.ValueOf.bytes vs figures → FiguresOf K.Kind.meaning V.ValueOf.bytes (vs ++ map V.ValueOf.bytes values.now) result }
 {
-    match (min, max) {
-        (Some(min), Some(max)) => count_between::<K, V>(values, min, max),
-        _ => 0,
+    let mut min = with_rank::<K, V>(figures.min);
+    let mut max = with_rank::<K, V>(figures.max);
+    let mut nan_count = figures.nan_count;
+    for value in values {
+        if is_nan::<K, V>(value) {
+            nan_count += 1;
+        } else {
+            let value = with_rank::<K, V>(*value);
+            min = lesser::<K, V>(min, value);
+            max = higher::<K, V>(max, value);
+        }
+    }
+    MinMax {
+        min: min.value,
+        max: max.value,
+        nan_count,
     }
 }
 
-// How many values, from the first on, are numbers between two others.
-fn count_between<K: Kind, V: ValueOf<K>>(values: &[V], min: &V, max: &V) -> usize
-    ensures { result ≡ prefix_len (λ v. between K.Kind.meaning (V.ValueOf.bytes min.now) (V.ValueOf.bytes max.now) (V.ValueOf.bytes v)) values.now }
+// Whether both figures are there and no NaN.
+fn are_numbers<K: Kind, V: ValueOf<K>>(min: &Option<V>, max: &Option<V>) -> bool
+    ensures { result ≡ is_number K.Kind.meaning V.ValueOf.bytes min.now && is_number K.Kind.meaning V.ValueOf.bytes max.now }
 {
-    find_outside::<K, V>(values, min, max).unwrap_or(values.len())
+    is_number::<K, V>(min) && is_number::<K, V>(max)
 }
 
-// Where the first value stands that is not. The two stay while it looks on, so that the compiler prepares them for comparing once.
-fn find_outside<K: Kind, V: ValueOf<K>>(values: &[V], min: &V, max: &V) -> Option<usize>
-    ensures { result ≡ position (λ v. not (between K.Kind.meaning (V.ValueOf.bytes min.now) (V.ValueOf.bytes max.now) (V.ValueOf.bytes v))) values.now }
+// Whether a figure is there and no NaN.
+fn is_number<K: Kind, V: ValueOf<K>>(figure: &Option<V>) -> bool
+    ensures { result ≡ is_number K.Kind.meaning V.ValueOf.bytes figure.now }
 {
-    values
-        .iter()
-        .position(|value| !is_between::<K, V>(min, max, value))
-}
-
-// Whether a value is a number between two others.
-fn is_between<K: Kind, V: ValueOf<K>>(min: &V, max: &V, value: &V) -> bool
-    ensures { result ≡ between K.Kind.meaning (V.ValueOf.bytes min.now) (V.ValueOf.bytes max.now) (V.ValueOf.bytes value.now) }
-{
-    !is_nan::<K, V>(min)
-        && !is_nan::<K, V>(max)
-        && !is_nan::<K, V>(value)
-        && !K::compare_greater(min.as_bytes(&mut [0; 8]), value.as_bytes(&mut [0; 8]))
-        && !K::compare_greater(value.as_bytes(&mut [0; 8]), max.as_bytes(&mut [0; 8]))
+    match figure {
+        Some(value) => !is_nan::<K, V>(value),
+        None => false,
+    }
 }
 
 // Takes one value more into all three figures of those before it.

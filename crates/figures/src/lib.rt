@@ -4,6 +4,7 @@
 
 mod get;
 mod min_max;
+mod ranked;
 mod update;
 
 pub use get::get_min_max;

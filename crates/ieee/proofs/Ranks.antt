@@ -1,9 +1,10 @@
 -- The total order of data is the order of their ranks: negative below positive, and within a sign as the bits
 -- below it rise or fall.
-use Rattle.std.proofs.Common.{◌≡◌, ℕ, zero, suc, ◌+◌, ◌-◌, ◌*◌, ◌/◌, ◌%◌, ◌^◌, ◌<◌, Bool, true, false, cond, not, eqb, ltb, pos, neg_ℤ, sym, refl, ap, ◌∙◌, subst, ⊎_elim, leb, mod-eq_of_lt, arith}
-use native.Mathlib.Nat.{div-eq_of_lt}
+use Rattle.std.proofs.Common.{◌≡◌, ℕ, zero, suc, ◌+◌, ◌-◌, ◌*◌, ◌/◌, ◌%◌, ◌^◌, ◌<◌, ◌≤◌, bit_and, bit_or, bit_xor, Bool, true, false, cond, not, eqb, ltb, pos, neg_ℤ, sym, refl, ap, ◌∙◌, subst, ⊎_elim, leb, mod-eq_of_lt, pow-suc, arith}
+use native.Mathlib.Nat.{div-eq_of_lt, div-eq_of_lt-le}
+use Rattle.std.specs.Int.Bits.{and_zero_l, or_zero_l, or_shifted_r, xor_shifted, xor_add_and}
 use lib.Signed.{lt_z}
-use Rattle.std.proofs.lemmas.Nat.{pow_pos, mod-pow-add, mod_below}
+use Rattle.std.proofs.lemmas.Nat.{pow_pos, mod-pow-add, mod_below, and_comm, xor_comm, and_mask, shr_split}
 use Rattle.std.proofs.lemmas.Bool.{cases_Bool, cases_lt, eq-eqb, ne_eqb, lt-ltb, le-ltb, cases_eq}
 use Rattle.ieee.specs.Formats.{Format, Datum, finite, infinite, nan, size, quiet, payload, datum_of, datum, negative, biased, trailing, is_nan}
 use Rattle.ieee.specs.TotalOrder.{total_order, above, rank}
@@ -52,6 +53,18 @@ shape f s e t h =
     (cases_eq t 0))
     (λ z. subst (Shape f s e t) (sym (ap whole (ne_eqb e ones z))) (a_number (omega arith)))
     (cases_eq e ones)
+
+-- ---- the negation of a sign, as a mask
+
+none_of : (w m : ℕ) → w < 2 ^ 64 → (w + 0) % 2 ^ 64 ≡ 0 → bit_and w m ≡ 0
+none_of w m few away =
+    let none : w ≡ 0 = omega arith in
+    ap (λ v. bit_and v m) none ∙ and_zero_l m
+
+all_of : (w m : ℕ) → w < 2 ^ 64 → m < 2 ^ 64 → (w + 1) % 2 ^ 64 ≡ 0 → bit_and w m ≡ m
+all_of w m few fits away =
+    let ones : w ≡ 2 ^ 64 - 1 = omega arith in
+    ap (λ v. bit_and v m) ones ∙ and_comm (2 ^ 64 - 1) m ∙ and_mask m 64 ∙ mod-eq_of_lt fits
 
 module _ (f : Format) (some : 0 < f.significand) where
   -- the place of infinity, past every finite number and before every NaN
@@ -165,10 +178,54 @@ module _ (f : Format) (some : 0 < f.significand) where
       ∙ ap (λ l. ltb (rank_of (negative f b) l) (rank_of (negative f a) (low f (biased f a) (trailing f a)))) (sym (low_is b))
       ∙ ap (λ l. ltb (rank f b) (rank_of (negative f a) l)) (sym (low_is a))
 
-  -- the rank of a pattern without the sign
-  pub rank_low : (n : ℕ) → n < span → rank f n ≡ span + n
-  rank_low n h =
-      ap (λ q. cond (leb 1 q) (span - 1 - n % span) (span + n % span)) (div-eq_of_lt h) ∙ ap (λ m. span + m) (mod-eq_of_lt h)
+  -- the rank by the quotient, which is the sign
+  rank-by : (n q : ℕ) → n / span ≡ q → rank f n ≡ cond (leb 1 q) (span - 1 - n % span) (span + n % span)
+  rank-by n q e = ap (λ m. cond (leb 1 m) (span - 1 - n % span) (span + n % span)) e
+
+  -- the sign and the bits of a mask below it flipped
+  abbrev flipped : ℕ → ℕ → ℕ
+  flipped n m = bit_xor n (bit_or m span)
+
+  -- a clear sign: flipping it alone adds it
+  rank_positive : (n : ℕ) → n < span → flipped n 0 ≡ rank f n
+  rank_positive n h =
+      let k : ℕ = f.exponent + f.significand in
+      let clear : n / span ≡ 0 = div-eq_of_lt h in
+      let one : 1 * 2 ^ k ≡ span = omega arith in
+      let added : bit_xor span n ≡ span + n = subst (λ m. bit_xor m n ≡ m + n) one (xor_shifted 1 k n h) in
+      ap (bit_xor n) (or_zero_l span) ∙ xor_comm n span ∙ added ∙ ap (λ m. span + m) (sym (mod-eq_of_lt h)) ∙ sym (rank-by n 0 clear)
+
+  -- a set sign: flipping all bits takes the number from their sum
+  rank_negative : (n : ℕ) → span ≤ n → n < span + span → n / span ≡ 1 → flipped n (span - 1) ≡ rank f n
+  rank_negative n h l set =
+      let k : ℕ = f.exponent + f.significand in
+      let one : 1 * 2 ^ k ≡ span = omega arith in
+      let most : span - 1 < span = omega (arith, pow_pos k) in
+      let ones : 2 ^ suc k - 1 ≡ span + (span - 1) = omega (arith, pow-suc 2 k, pow_pos k) in
+      let all : bit_or (span - 1) span ≡ 2 ^ suc k - 1 = subst (λ m. bit_or (span - 1) m ≡ m + (span - 1)) one (or_shifted_r 1 k (span - 1) most) ∙ sym ones in
+      let kept : bit_and n (2 ^ suc k - 1) ≡ n = and_mask n (suc k) ∙ mod-eq_of_lt (omega (arith, pow-suc 2 k)) in
+      let below : n % span ≡ n - span = omega (arith, shr_split n k, ap (λ m. m * span) set) in
+      ap (bit_xor n) all ∙ omega (arith, ones, kept, below, xor_add_and n (2 ^ suc k - 1), rank-by n 1 set)
+
+  -- the mask below the sign by w, the negation of the sign
+  rank_masked : (n w : ℕ) → n < span + span → span < 2 ^ 64 → w < 2 ^ 64 → (w + n / span) % 2 ^ 64 ≡ 0
+      → flipped n (bit_and w (span - 1)) ≡ rank f n
+  rank_masked n w h fits few away =
+      ⊎_elim
+      (λ l.
+      let clear : n / span ≡ 0 = div-eq_of_lt l in
+      ap (flipped n) (none_of w (span - 1) few (ap (λ q. (w + q) % 2 ^ 64) (sym clear) ∙ away)) ∙ rank_positive n l)
+      (λ l.
+      let set : n / span ≡ 1 = div-eq_of_lt-le span (omega arith) (omega arith) in
+      ap (flipped n) (all_of w (span - 1) few (omega arith) (ap (λ q. (w + q) % 2 ^ 64) (sym set) ∙ away)) ∙ rank_negative n l h set)
+      (cases_lt n span)
+
+  -- the rank by the bits of a pattern, where s is the weight of the sign
+  pub rank_bits : (n s w : ℕ) → s ≡ span → n < s + s → s < 2 ^ 64 → w < 2 ^ 64 → (w + n / s) % 2 ^ 64 ≡ 0
+      → bit_xor n (bit_or (bit_and w (s - 1)) s) ≡ rank f n
+  rank_bits n s w e =
+      subst (λ m. n < m + m → m < 2 ^ 64 → w < 2 ^ 64 → (w + n / m) % 2 ^ 64 ≡ 0 → bit_xor n (bit_or (bit_and w (m - 1)) m) ≡ rank f n) (sym e)
+      (rank_masked n w)
 
   nan_by : (s : Bool) (e t : ℕ) (x : Datum) → t < 2 ^ f.significand → Shape f s e t x
       → is_nan x ≡ ltb (low f (2 ^ f.exponent - 1) 0) (low f e t)

@@ -8,4 +8,4 @@ mod total;
 
 pub use nan::is_nan;
 pub use pattern::Pattern;
-pub use total::total_greater;
+pub use total::{rank, total_greater};

@@ -14,5 +14,5 @@ pub fn is_nan<P: Pattern>(bits: P) -> bool
 fn is_past_infinity<P: Pattern>(bits: P) -> bool
     ensures { result ≡ nat_lt ((2 ^ P.format.exponent - 1) * 2 ^ P.format.significand) (P.number bits % 2 ^ (P.format.exponent + P.format.significand)) }
 {
-    bits.into() % P::SIGN > P::INFINITY
+    bits.to_u64() % P::SIGN > P::INFINITY
 }

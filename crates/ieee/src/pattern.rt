@@ -1,10 +1,10 @@
-ghost use Rattle.std.specs.Prelude.{◌≡◌, ℕ, ◌+◌, ◌-◌, ◌*◌, ◌^◌, ◌<◌, ◌≤◌};
-ghost use Rattle.std.proofs.Common.{refl, lit<, lit≤};
+ghost use Rattle.std.specs.Prelude.{◌≡◌, ℕ, ◌+◌, ◌-◌, ◌*◌, ◌^◌, ◌<◌};
+ghost use Rattle.std.proofs.Common.{refl, lit<};
 ghost use Rattle.ieee.specs.Formats.{Format, binary16, binary32, binary64};
 
-// A type whose values are the bit patterns of a format. The language makes each of these types a `u64` by itself, and takes no
-// impl for a bare parameter, so each type has an impl.
-pub trait Pattern: Copy + Into<u64> {
+// A type whose values are the bit patterns of a format. The language has the conversion to `u64` for each type by itself, and
+// takes no impl for a bare parameter, so each type has an impl.
+pub trait Pattern: Copy {
     // The format.
     ghost format: { Format };
 
@@ -24,14 +24,13 @@ pub trait Pattern: Copy + Into<u64> {
 
     ghost INFINITY: { ℕ };
 
-    // A pattern converts into its number.
-    ghost converts_law: { (bits : Self) (n : ℕ) → Self.converts bits n → n ≡ number bits };
+    // The pattern as a number: it has no bit above the sign's.
+    fn to_u64(self) -> u64
+        ensures number { result ≡ number self }
+        ensures few { result < SIGN + SIGN };
 
     // The sign stands before the exponent and the significand.
     ghost sign_law: { SIGN ≡ 2 ^ (format.exponent + format.significand) };
-
-    // Every pattern is a u64.
-    ghost sign_fits_law: { SIGN + SIGN ≤ 2 ^ 64 };
 
     // Infinity is an exponent of ones, and nothing behind it.
     ghost infinity_law: { INFINITY ≡ (2 ^ format.exponent - 1) * 2 ^ format.significand };
@@ -52,11 +51,11 @@ impl Pattern for u16 {
 
     const INFINITY: u64 = 0x7C00;
 
-    ghost converts_law = { λ _ _ e. e };
+    fn to_u64(self) -> u64 {
+        u64::from(self)
+    }
 
     ghost sign_law = { refl };
-
-    ghost sign_fits_law = { lit≤ tt };
 
     ghost infinity_law = { refl };
 }
@@ -76,11 +75,11 @@ impl Pattern for u32 {
 
     const INFINITY: u64 = 0x7F80_0000;
 
-    ghost converts_law = { λ _ _ e. e };
+    fn to_u64(self) -> u64 {
+        u64::from(self)
+    }
 
     ghost sign_law = { refl };
-
-    ghost sign_fits_law = { lit≤ tt };
 
     ghost infinity_law = { refl };
 }
@@ -100,11 +99,11 @@ impl Pattern for u64 {
 
     const INFINITY: u64 = 0x7FF0_0000_0000_0000;
 
-    ghost converts_law = { λ _ _ e. e };
+    fn to_u64(self) -> u64 {
+        self
+    }
 
     ghost sign_law = { refl };
-
-    ghost sign_fits_law = { lit≤ tt };
 
     ghost infinity_law = { refl };
 }

@@ -3,17 +3,14 @@ ghost use Rattle.ieee.specs.TotalOrder.{above, rank};
 
 use crate::pattern::Pattern;
 
-// The rank of a pattern: negative ones from the back, then the others.
-#[tactic(auto, using(crate::proofs::Ranks::rank_low))]
-fn rank<P: Pattern>(bits: P) -> u64
+// The place of a pattern in the total order, as a number: negative patterns from the back, then the others.
+#[tactic(auto, using(crate::proofs::Ranks::rank_bits))]
+pub fn rank<P: Pattern>(bits: P) -> u64
     ensures { result ≡ rank P.format (P.number bits) }
 {
-    let n = bits.into();
-    if n < P::SIGN {
-        P::SIGN + n
-    } else {
-        P::SIGN - 1 - n % P::SIGN
-    }
+    let n = bits.to_u64();
+    // The sign bit alone where it is clear, all bits where it is set, without a branch on the sign.
+    n ^ ((n / P::SIGN).wrapping_neg() & (P::SIGN - 1) | P::SIGN)
 }
 
 // Whether the first pattern comes after the second in the total order: it has the greater rank.

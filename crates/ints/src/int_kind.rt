@@ -1,5 +1,6 @@
 ghost use Rattle.std.specs.Prelude.{false, Some};
 ghost use Rattle.std.proofs.Common.{rules};
+ghost use Rattle.std.proofs.lemmas.Bool.{false≢true};
 ghost use Rattle.kinds.specs.Meaning.{thrift};
 ghost use Rattle.ints.specs.Ints.{integers};
 ghost use Rattle.words.specs.Words.{few};
@@ -35,12 +36,24 @@ impl<T: Integer> Kind for IntKind<T> {
 
     ghost described = { Prim.search rules };
 
+    const HAS_RANKS: bool = false;
+
+    ghost HAS_RANKS = { false };
+
+    ghost rank = { λ _. 0 };
+
+    ghost ranks_law = { λ has. absurd (false≢true has) };
+
     fn is_nan(_value: &[u8]) -> bool {
         false
     }
 
     fn compare_greater(a: &[u8], b: &[u8]) -> bool {
         T::read(a) > T::read(b)
+    }
+
+    fn rank(_value: &[u8]) -> u64 {
+        0
     }
 
     fn truncate_min_value(value: &[u8], _length: usize) -> (usize, bool) {

@@ -1,4 +1,4 @@
-ghost use Rattle.std.specs.Prelude.{◌≡◌, ℕ, Bool, Option};
+ghost use Rattle.std.specs.Prelude.{◌≡◌, ℕ, Bool, true, List, Option, nat_lt};
 ghost use Rattle.kinds.specs.Cuts.{CutBelow, CutAbove};
 ghost use Rattle.kinds.specs.Meaning.{Meaning, Describes, admitted, greater};
 ghost use Rattle.kinds.specs.declared.physical.PhysicalType.{PhysicalType as Physical};
@@ -30,6 +30,16 @@ pub trait Kind: Copy {
 
     ghost HAS_NAN: { Bool };
 
+    // Whether the order is that of ranks: numbers, for an order that is dearer to tell by the bytes.
+    const HAS_RANKS: bool;
+
+    ghost HAS_RANKS: { Bool };
+
+    ghost rank: { List ℕ → ℕ };
+
+    // What has the higher rank is greater.
+    ghost ranks_law: { HAS_RANKS ≡ true → (a b : List ℕ) → greater meaning a b ≡ nat_lt (rank b) (rank a) };
+
     // Whether a value is NaN.
     fn is_nan(value: &[u8]) -> bool
         ensures { result ≡ meaning.nan value.now };
@@ -37,6 +47,10 @@ pub trait Kind: Copy {
     // Whether a is greater than b, values or bounds.
     fn compare_greater(a: &[u8], b: &[u8]) -> bool
         ensures { result ≡ greater meaning a.now b.now };
+
+    // The rank of a value or bound. It tells nothing where the order is not that of ranks.
+    fn rank(value: &[u8]) -> u64
+        ensures { result ≡ rank value.now };
 
     // The lower bound of a value at the length: how long a front of it, and whether that cuts it. As in the Rust crate, both
     // cuts answer a pair: the length is there whether or not the value was cut.
