@@ -1,5 +1,6 @@
 -- Lists of bytes in fixed memory.
 use Rattle.std.specs.Prelude.{◌≡◌, ℕ, ◌+◌, ◌-◌, ◌<◌, ◌≤◌, List, ◌++◌, length, take, drop, replicate, Some, None, Option}
+use Rattle.std.specs.List.{AllByRecursion, concat}
 use Rattle.std.proofs.Common.{sym, ap, ◌∙◌, arith}
 use Rattle.std.proofs.lemmas.List.{length-take-le, take-append-drop}
 
@@ -7,6 +8,16 @@ use Rattle.std.proofs.lemmas.List.{length-take-le, take-append-drop}
 abbrev pub Appended : ℕ → List ℕ → List ℕ → List ℕ → Option (Unit {0}) → Type 0
 Appended n old bs new (Some _) = (length old + length bs ≤ n) × (new ≡ old ++ bs)
 Appended n old bs new None = (n < length old + length bs) × (new ≡ old)
+
+-- each of the byte strings has that many bytes
+abbrev pub HaveLength : ℕ → List (List ℕ) → Type 0
+HaveLength w vs = AllByRecursion (λ v. length v ≡ w) vs
+
+-- what appending byte strings to at most n answers and leaves: where all have one length, what appending them joined
+-- does; where they have not, the answer is absent, and nothing changed
+abbrev pub AppendedAll : ℕ → List ℕ → List (List ℕ) → List ℕ → Option (Unit {0}) → Type 0
+AppendedAll n old vs new r =
+    ((w : ℕ) → HaveLength w vs → Appended n old (concat vs) new r) × (((w : ℕ) → ¬ HaveLength w vs) → (r ≡ None) × (new ≡ old))
 
 -- of n places of memory the first are used, and only zeros stand behind them
 pub record IsPadded (n used : ℕ) (all : List ℕ) : Type 0 where

@@ -9,7 +9,6 @@ use crate::chunk::ColumnChunk;
 use body_coder::BodyCoder;
 use kinds::Kind;
 use level_coder::LevelCoder;
-use open_page::OpenPage;
 use pages::PageFault;
 use refusals::{BatchDone, ChunkFault};
 use sinks::{Fault, PageSink, PageStore};
@@ -55,7 +54,8 @@ impl<K: Kind, L: LevelCoder, B: BodyCoder, S: PageSink> ColumnChunk<K, L, B, S> 
             offset,
             size,
         );
-        self.page = OpenPage::new::<K>(self.layout());
+        let layout = self.layout();
+        self.page.clear::<K>(layout);
         Ok(1)
     }
 

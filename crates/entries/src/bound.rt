@@ -17,24 +17,24 @@ impl StoredBound {
     ghost use Rattle.entries.specs.Bounds.{said_bound};
 
     // The bound of a page's smallest value: cut where there is a cut length, and empty where there is no value.
-    pub fn lower<K: Kind>(cut: Option<usize>, min: Option<Buffer<128>>) -> StoredBound
-        ensures { said_bound result ≡ lower K.Kind.meaning cut (kept min) }
+    pub fn lower<K: Kind>(cut: Option<usize>, min: &Option<Buffer<128>>) -> StoredBound
+        ensures { said_bound result ≡ lower K.Kind.meaning cut (kept min.now) }
     {
         match (min, cut) {
             (None, _) => StoredBound::whole(Buffer::new()),
-            (Some(value), None) => StoredBound::whole(value),
-            (Some(value), Some(length)) => StoredBound::cut_below::<K>(&value, length),
+            (Some(value), None) => StoredBound::whole(*value),
+            (Some(value), Some(length)) => StoredBound::cut_below::<K>(value, length),
         }
     }
 
     // The bound of a page's largest value, likewise.
-    pub fn upper<K: Kind>(cut: Option<usize>, max: Option<Buffer<128>>) -> StoredBound
-        ensures { said_bound result ≡ upper K.Kind.meaning cut (kept max) }
+    pub fn upper<K: Kind>(cut: Option<usize>, max: &Option<Buffer<128>>) -> StoredBound
+        ensures { said_bound result ≡ upper K.Kind.meaning cut (kept max.now) }
     {
         match (max, cut) {
             (None, _) => StoredBound::whole(Buffer::new()),
-            (Some(value), None) => StoredBound::whole(value),
-            (Some(value), Some(length)) => StoredBound::cut_above::<K>(&value, length),
+            (Some(value), None) => StoredBound::whole(*value),
+            (Some(value), Some(length)) => StoredBound::cut_above::<K>(value, length),
         }
     }
 

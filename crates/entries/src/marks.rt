@@ -32,10 +32,10 @@ impl Marks {
     pub fn new<K: Kind>(
         cut: Option<usize>,
         page: &PageMetrics,
-        min: Option<Buffer<128>>,
-        max: Option<Buffer<128>>,
+        min: &Option<Buffer<128>>,
+        max: &Option<Buffer<128>>,
     ) -> Marks
-        ensures { (l : PageLayout) (p : Page) → length p.values ≡ count_by (nat_eq l.max_def_level) p.defs → Measures K.Kind.meaning l p page.now → kept min ≡ smallest K.Kind.meaning p.values → kept max ≡ largest K.Kind.meaning p.values → said_marks result ≡ marks K.Kind.meaning l cut p }
+        ensures { (l : PageLayout) (p : Page) → length p.values ≡ count_by (nat_eq l.max_def_level) p.defs → Measures K.Kind.meaning l p page.now → kept min.now ≡ smallest K.Kind.meaning p.values → kept max.now ≡ largest K.Kind.meaning p.values → said_marks result ≡ marks K.Kind.meaning l cut p }
     {
         Marks {
             // Every level is a null. That there is no figure would not tell it of a page whose figures were left out.

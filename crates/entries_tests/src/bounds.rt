@@ -12,10 +12,10 @@ fn bounds(
     upper: &[u8],
     is_cut: bool,
 ) {
-    let low = StoredBound::lower::<ByteArray>(cut, value.map(buffer));
+    let low = StoredBound::lower::<ByteArray>(cut, &value.map(buffer));
     assert!(rt; low.bytes.as_slice() == lower);
     assert_eq!(rt; low.is_cut, is_cut);
-    let high = StoredBound::upper::<ByteArray>(cut, value.map(buffer));
+    let high = StoredBound::upper::<ByteArray>(cut, &value.map(buffer));
     assert!(rt; high.bytes.as_slice() == upper);
     assert_eq!(rt; high.is_cut, is_cut);
 }

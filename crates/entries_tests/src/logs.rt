@@ -20,8 +20,8 @@ fn put(log: &mut PageLog, value: Option<&[u8]>, offset: usize) -> Option<()> {
     log.add_data_page::<ByteArray>(
         SETTINGS,
         &counted(&[def]),
-        value.map(buffer),
-        value.map(buffer),
+        &value.map(buffer),
+        &value.map(buffer),
         offset,
         10,
     )

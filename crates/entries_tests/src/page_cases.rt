@@ -9,7 +9,7 @@ fn holds(bound: StoredBound, bytes: &[u8]) -> bool {
 
 #[test]
 fn a_page_without_values(rt: HostRuntime) {
-    let marks = Marks::new::<ByteArray>(Some(2), &counted(&[0, 0, 0]), None, None);
+    let marks = Marks::new::<ByteArray>(Some(2), &counted(&[0, 0, 0]), &None, &None);
     assert!(rt; marks.null_page);
     assert!(rt; holds(marks.min, b""));
     assert!(rt; holds(marks.max, b""));
@@ -26,7 +26,7 @@ fn a_page_without_values(rt: HostRuntime) {
 #[test]
 fn a_page_with_a_value_and_a_null(rt: HostRuntime) {
     let value = || Some(buffer(b"a"));
-    let marks = Marks::new::<ByteArray>(Some(2), &counted(&[1, 0]), value(), value());
+    let marks = Marks::new::<ByteArray>(Some(2), &counted(&[1, 0]), &value(), &value());
     assert!(rt; !marks.null_page);
     assert!(rt; holds(marks.min, b"a"));
     assert!(rt; holds(marks.max, b"a"));

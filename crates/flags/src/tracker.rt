@@ -65,12 +65,12 @@ impl Tracker {
             last,
             ascending,
             descending,
-        } = *self;
+        } = self;
         match last {
-            None => (ascending, descending),
+            None => (*ascending, *descending),
             Some(last) => (
-                ascending && last.rises::<K>(page),
-                descending && page.rises::<K>(&last),
+                *ascending && last.rises::<K>(page),
+                *descending && page.rises::<K>(last),
             ),
         }
     }

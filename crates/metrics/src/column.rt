@@ -49,11 +49,11 @@ impl ColumnMetrics {
     pub fn add_page<K: Kind>(
         &mut self,
         page: &PageMetrics,
-        min: Option<Buffer<128>>,
-        max: Option<Buffer<128>>,
+        min: &Option<Buffer<128>>,
+        max: &Option<Buffer<128>>,
         size: usize,
     )
-        ensures { (l : PageLayout) (p q : Page) (n : ℕ) → length p.reps + length q.reps < 2 ^ 32 → length p.defs + length q.defs < 2 ^ 32 → length p.values + length q.values < 2 ^ 32 → n + size < 2 ^ 64 → Sums K.Kind.meaning l p n self.old → Measures K.Kind.meaning l q page.now → kept min ≡ smallest K.Kind.meaning q.values → kept max ≡ largest K.Kind.meaning q.values → Sums K.Kind.meaning l (join p q) (n + size) self.new }
+        ensures { (l : PageLayout) (p q : Page) (n : ℕ) → length p.reps + length q.reps < 2 ^ 32 → length p.defs + length q.defs < 2 ^ 32 → length p.values + length q.values < 2 ^ 32 → n + size < 2 ^ 64 → Sums K.Kind.meaning l p n self.old → Measures K.Kind.meaning l q page.now → kept min.now ≡ smallest K.Kind.meaning q.values → kept max.now ≡ largest K.Kind.meaning q.values → Sums K.Kind.meaning l (join p q) (n + size) self.new }
     {
         // `as u64`, since no `From` takes a `usize` to a `u64`.
         self.total_bytes_written = self.total_bytes_written.saturating_add(size as u64);
@@ -75,8 +75,8 @@ impl ColumnMetrics {
             &mut self.definition_level_histogram,
             &page.definition_level_histogram,
         );
-        take_min::<K>(&mut self.min_column_value, &min);
-        take_max::<K>(&mut self.max_column_value, &max);
+        take_min::<K>(&mut self.min_column_value, min);
+        take_max::<K>(&mut self.max_column_value, max);
     }
 }
 

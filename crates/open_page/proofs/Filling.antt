@@ -1,10 +1,10 @@
 -- A page that takes values: their plain bytes one value after the other, and their figures.
-use Rattle.std.proofs.Common.{◌≡◌, ℕ, ◌+◌, ◌<◌, ◌≤◌, Bool, true, not, List, [], ◌∷◌, ◌++◌, length, get_or, take, drop, Some, sym, ap, ◌∙◌, subst, ⊎_elim, arith}
-use Rattle.std.specs.List.{AllByRecursion, list_any, filter, find}
-use Rattle.std.proofs.ByRecursion.{All-get_or}
-use Rattle.std.proofs.lemmas.List.{append_assoc, append-nil, length-append, take_more, take_all, take-append-drop}
+use Rattle.std.proofs.Common.{◌≡◌, ℕ, ◌+◌, ◌<◌, ◌≤◌, Bool, true, not, List, [], ◌∷◌, ◌++◌, length, get_or, take, drop, Some, None, Option, refl, sym, ap, ◌∙◌, subst, ⊎_elim, arith}
+use Rattle.std.specs.List.{AllByRecursion, concat, list_any, filter, find}
+use Rattle.std.proofs.lemmas.List.{append_assoc, append-nil, length-append, take_more, take-append-drop}
 use Rattle.std.proofs.lemmas.Bool.{cond-true, cond-false, cases_Bool, cases_eq}
 use Rattle.std.proofs.lemmas.Option.{same_Some, none-some}
+use Rattle.buffers.specs.Buffers.{AppendedAll, HaveLength}
 use Rattle.kinds.specs.Meaning.{Meaning, greater}
 use Rattle.kinds.specs.Plain.{plain, sized, four}
 use Rattle.kinds.proofs.Plains.{plain_fixed, plain_variable, sized_fixed, sized_variable}
@@ -32,55 +32,58 @@ plain_few w v few s =
 
 -- ---- plain bytes
 
--- the plain bytes of the first i values are put
-abbrev pub PlainsSoFar : ℕ → List (List ℕ) → ℕ → List ℕ → List ℕ → Type 0
-PlainsSoFar w vs i old new =
-    w ≤ 128 → AllByRecursion (λ v. sized w v ≡ true) vs → length old + length (plains w vs) ≤ 8191 → new ≡ old ++ plains w (take i vs)
+-- the plain bytes of the first i values are put, where each value has its own length
+abbrev pub PlainsSoFar : List (List ℕ) → ℕ → List ℕ → List ℕ → Type 0
+PlainsSoFar vs i old new = length old + length (plains 0 vs) ≤ 8191 → new ≡ old ++ plains 0 (take i vs)
 
--- what putting one value leaves
-abbrev pub PlainAdded : ℕ → List ℕ → List ℕ → List ℕ → Type 0
-PlainAdded w v old new = w ≤ 128 → sized w v ≡ true → length old + length (plain w v) ≤ 8191 → new ≡ old ++ plain w v
+-- what putting one such value leaves
+abbrev pub PlainAdded : List ℕ → List ℕ → List ℕ → Type 0
+PlainAdded v old new = length old + length (plain 0 v) ≤ 8191 → new ≡ old ++ plain 0 v
 
-plains_one : (w : ℕ) (v : List ℕ) → plains w (v ∷ []) ≡ plain w v
-plains_one w v = append-nil (plain w v)
+plains_more : (vs : List (List ℕ)) (i : ℕ) → i < length vs → plains 0 (take (i + 1) vs) ≡ plains 0 (take i vs) ++ plain 0 (get_or vs i [])
+plains_more vs i h =
+    ap (plains 0) (take_more vs i [] h) ∙ plains-append 0 (take i vs) (get_or vs i [] ∷ []) ∙ ap (λ x. plains 0 (take i vs) ++ x) (append-nil (plain 0 (get_or vs i [])))
 
-plains_more : (w : ℕ) (vs : List (List ℕ)) (i : ℕ) → i < length vs → plains w (take (i + 1) vs) ≡ plains w (take i vs) ++ plain w (get_or vs i [])
-plains_more w vs i h =
-    ap (plains w) (take_more vs i [] h) ∙ plains-append w (take i vs) (get_or vs i [] ∷ []) ∙ ap (λ x. plains w (take i vs) ++ x) (plains_one w (get_or vs i []))
+plains_front : (vs : List (List ℕ)) (i : ℕ) → length (plains 0 (take i vs)) ≤ length (plains 0 vs)
+plains_front vs i =
+    let e : plains 0 vs ≡ plains 0 (take i vs) ++ plains 0 (drop i vs) =
+    ap (plains 0) (sym (take-append-drop i vs)) ∙ plains-append 0 (take i vs) (drop i vs) in
+    omega (arith, ap length e, length-append (plains 0 (take i vs)) (plains 0 (drop i vs)))
 
-plains_front : (w : ℕ) (vs : List (List ℕ)) (i : ℕ) → length (plains w (take i vs)) ≤ length (plains w vs)
-plains_front w vs i =
-    let e : plains w vs ≡ plains w (take i vs) ++ plains w (drop i vs) =
-    ap (plains w) (sym (take-append-drop i vs)) ∙ plains-append w (take i vs) (drop i vs) in
-    omega (arith, ap length e, length-append (plains w (take i vs)) (plains w (drop i vs)))
+-- values of a width lie one after the other, with nothing between them
+plains-concat : (w : ℕ) (vs : List (List ℕ)) → 0 < w → plains w vs ≡ concat vs
+plains-concat w [] some = refl
+plains-concat w (v ∷ vs) some = ap (λ x. x ++ plains w vs) (plain_fixed w v some) ∙ ap (λ x. v ++ x) (plains-concat w vs some)
 
-module _ (w : ℕ) (vs : List (List ℕ)) (old : List ℕ) where
-  pub no_plains : PlainsSoFar w vs 0 old old
-  no_plains few sizes room = sym (append-nil old)
+have_width : (w : ℕ) (vs : List (List ℕ)) → 0 < w → AllByRecursion (λ v. sized w v ≡ true) vs → HaveLength w vs
+have_width w [] some sizes = tt
+have_width w (v ∷ vs) some sizes = (sized_fixed w v some sizes.0, have_width w vs some sizes.1)
 
-  pub more_plains : (i : ℕ) (v now new : List ℕ) → i < length vs → v ≡ get_or vs i [] → PlainsSoFar w vs i old now → PlainAdded w v now new → PlainsSoFar w vs (i + 1) old new
-  more_plains i v now new h e s add few sizes room =
+module _ (vs : List (List ℕ)) (old : List ℕ) where
+  pub more_plains : (i : ℕ) (v now new : List ℕ) → i < length vs → v ≡ get_or vs i [] → PlainsSoFar vs i old now → PlainAdded v now new → PlainsSoFar vs (i + 1) old new
+  more_plains i v now new h e s add room =
       let x : List ℕ = get_or vs i [] in
-      let is : now ≡ old ++ plains w (take i vs) = s few sizes room in
-      let right : sized w v ≡ true = ap (sized w) e ∙ All-get_or (λ u. sized w u ≡ true) vs i [] h sizes in
-      let more = plains_more w vs i h in
-      let fits : length now + length (plain w v) ≤ 8191 =
+      let is : now ≡ old ++ plains 0 (take i vs) = s room in
+      let more = plains_more vs i h in
+      let fits : length now + length (plain 0 v) ≤ 8191 =
       omega (
         arith,
         ap length is,
-        length-append old (plains w (take i vs)),
+        length-append old (plains 0 (take i vs)),
         ap length more,
-        length-append (plains w (take i vs)) (plain w x),
-        ap (λ u. length (plain w u)) e,
-        plains_front w vs (i + 1),
+        length-append (plains 0 (take i vs)) (plain 0 x),
+        ap (λ u. length (plain 0 u)) e,
+        plains_front vs (i + 1),
         room,
       ) in
-      add few right fits ∙ ap (λ y. y ++ plain w v) is ∙ append_assoc old (plains w (take i vs)) (plain w v)
-      ∙ ap (λ u. old ++ (plains w (take i vs) ++ plain w u)) e ∙ ap (λ y. old ++ y) (sym more)
+      add fits ∙ ap (λ y. y ++ plain 0 v) is ∙ append_assoc old (plains 0 (take i vs)) (plain 0 v)
+      ∙ ap (λ u. old ++ (plains 0 (take i vs) ++ plain 0 u)) e ∙ ap (λ y. old ++ y) (sym more)
 
-  pub all_plains : (i : ℕ) (new : List ℕ) → length vs ≤ i → PlainsSoFar w vs i old new → w ≤ 128 → AllByRecursion (λ v. sized w v ≡ true) vs
+  pub plains_at_once : (w : ℕ) (new : List ℕ) (r : Option (Unit {0})) → 0 < w → AppendedAll 8191 old vs new r → AllByRecursion (λ v. sized w v ≡ true) vs
       → length old + length (plains w vs) ≤ 8191 → new ≡ old ++ plains w vs
-  all_plains i new ge s few sizes room = s few sizes room ∙ ap (λ x. old ++ plains w x) (take_all i vs ge)
+  plains_at_once w new (Some x) some a sizes room = (a.0 w (have_width w vs some sizes)).1 ∙ ap (λ x. old ++ x) (sym (plains-concat w vs some))
+  plains_at_once w new None some a sizes room =
+      absurd (omega (arith, (a.0 w (have_width w vs some sizes)).0, ap length (plains-concat w vs some), room))
 
 -- ---- figures
 

@@ -53,6 +53,17 @@ impl OpenPage {
         }
     }
 
+    // Makes it an empty page again.
+    pub fn clear<K: Kind>(&mut self, layout: Layout)
+        ensures { Allowed layout → Opened K.Kind.meaning layout blank self.new }
+    {
+        self.reps.clear();
+        self.defs.clear();
+        self.plain.clear();
+        self.metrics = PageMetrics::new::<K>(layout);
+        (self.min, self.max) = (None, None);
+    }
+
     // How many levels the page has.
     pub fn level_count(&self) -> usize
         ensures count { result ≡ length self.now.defs }
@@ -150,16 +161,16 @@ impl OpenPage {
     }
 
     // The smallest value, absent if there is none.
-    pub fn min(&self) -> Option<Buffer<128>>
-        ensures { (m : Meaning) (l : PageLayout) (p : Page) → Opened m l p self.now → kept result ≡ smallest m p.values }
+    pub fn min(&self) -> &Option<Buffer<128>>
+        ensures { (m : Meaning) (l : PageLayout) (p : Page) → Opened m l p self.now → kept result.now ≡ smallest m p.values }
     {
-        self.min
+        &self.min
     }
 
     // The largest value, absent if there is none.
-    pub fn max(&self) -> Option<Buffer<128>>
-        ensures { (m : Meaning) (l : PageLayout) (p : Page) → Opened m l p self.now → kept result ≡ largest m p.values }
+    pub fn max(&self) -> &Option<Buffer<128>>
+        ensures { (m : Meaning) (l : PageLayout) (p : Page) → Opened m l p self.now → kept result.now ≡ largest m p.values }
     {
-        self.max
+        &self.max
     }
 }

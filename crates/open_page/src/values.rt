@@ -16,19 +16,18 @@ pub(crate) fn first<V>(values: &[V], count: usize) -> &[V]
     values.get(..count).unwrap_or(&[])
 }
 
-// Puts a value's plain bytes behind others.
-fn put_value<K: Kind, V: ValueOf<K>>(plain: &mut Buffer<8191>, width: usize, value: &V)
-    ensures { width ≤ 128 → sized width (V.ValueOf.bytes value.now) ≡ true → length plain.old + length (plain_of width (V.ValueOf.bytes value.now)) ≤ 8191 → plain.new ≡ plain.old ++ plain_of width (V.ValueOf.bytes value.now) }
+// Puts the plain bytes of a BYTE_ARRAY behind others: its length in four bytes, then its own.
+fn put_byte_array<K: Kind, V: ValueOf<K>>(plain: &mut Buffer<8191>, value: &V)
+    ensures { length plain.old + length (plain_of 0 (V.ValueOf.bytes value.now)) ≤ 8191 → plain.new ≡ plain.old ++ plain_of 0 (V.ValueOf.bytes value.now) }
 {
     let mut room = [0; 8];
     let bytes = value.as_bytes(&mut room);
-    if width == 0 {
-        plain.extend(&four_bytes(bytes.len()));
-    }
+    plain.extend(&four_bytes(bytes.len()));
     plain.extend(bytes);
 }
 
-// Puts the plain bytes of values behind others, one value after the other.
+// Puts the plain bytes of values behind others: all at once where the column has a width, and else one value after the
+// other.
 pub(crate) fn put_values<K: Kind, V: ValueOf<K>>(
     plain: &mut Buffer<8191>,
     width: usize,
@@ -36,8 +35,12 @@ pub(crate) fn put_values<K: Kind, V: ValueOf<K>>(
 )
     ensures { width ≤ 128 → AllByRecursion (λ v. sized width v ≡ true) (map V.ValueOf.bytes values.now) → length plain.old + length (plains width (map V.ValueOf.bytes values.now)) ≤ 8191 → plain.new ≡ plain.old ++ plains width (map V.ValueOf.bytes values.now) }
 {
+    if width > 0 {
+        plain.extend_all::<K, V>(values);
+        return;
+    }
     for value in values {
-        put_value::<K, V>(plain, width, value);
+        put_byte_array::<K, V>(plain, value);
     }
 }
 

@@ -57,7 +57,7 @@ fn nested() -> OpenPage {
 }
 
 // Whether a value is there, and these are its bytes.
-fn is(value: Option<Buffer<128>>, bytes: &[u8]) -> bool {
+fn is(value: &Option<Buffer<128>>, bytes: &[u8]) -> bool {
     value.is_some_and(|v| v.as_slice() == bytes)
 }
 

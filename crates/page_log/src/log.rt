@@ -61,17 +61,17 @@ impl PageLog {
         &mut self,
         settings: Settings,
         page: &PageMetrics,
-        min: Option<Buffer<128>>,
-        max: Option<Buffer<128>>,
+        min: &Option<Buffer<128>>,
+        max: &Option<Buffer<128>>,
         offset: usize,
         size: usize,
     ) -> Option<()>
-        ensures { (c : Coding) (b : Body) (col : Column) (os : List ℕ) (ps : List Page) (p : Page) → let x = context K.Kind.meaning c b col settings in Logged x os ps self.old → Measures x.kind (layout_of x) p page.now → kept min ≡ smallest x.kind p.values → kept max ≡ largest x.kind p.values → WellFormed (layout_of x) p → size ≡ length (bytes x p) → size ≤ 9227 → Logs x os ps offset p self.old self.new result }
+        ensures { (c : Coding) (b : Body) (col : Column) (os : List ℕ) (ps : List Page) (p : Page) → let x = context K.Kind.meaning c b col settings in Logged x os ps self.old → Measures x.kind (layout_of x) p page.now → kept min.now ≡ smallest x.kind p.values → kept max.now ≡ largest x.kind p.values → WellFormed (layout_of x) p → size ≡ length (bytes x p) → size ≤ 9227 → Logs x os ps offset p self.old self.new result }
     {
-        let entry = self.next_entry::<K>(settings, page, &min, &max, offset, size);
+        let entry = self.next_entry::<K>(settings, page, min, max, offset, size);
         self.entries.push(entry)?;
-        track_values::<K>(&mut self.values, &min, &max);
-        track_stored::<K>(&mut self.stored, settings.cut_length, &min, &max);
+        track_values::<K>(&mut self.values, min, max);
+        track_stored::<K>(&mut self.stored, settings.cut_length, min, max);
         self.metrics.add_page::<K>(page, min, max, size);
         Some(())
     }
@@ -94,7 +94,7 @@ impl PageLog {
             // By `as`, since no `From` takes a `u64` to a `usize`.
             levels: page.num_buffered_values as usize,
             first_row: self.metrics.total_rows_written,
-            marks: marks_in::<K>(settings, page, *min, *max),
+            marks: marks_in::<K>(settings, page, min, max),
         }
     }
 
@@ -169,10 +169,10 @@ fn of_no_page(layout: Layout) -> (ColumnMetrics, Tracker)
 fn marks_in<K: Kind>(
     settings: Settings,
     page: &PageMetrics,
-    min: Option<Buffer<128>>,
-    max: Option<Buffer<128>>,
+    min: &Option<Buffer<128>>,
+    max: &Option<Buffer<128>>,
 ) -> Option<Marks>
-    ensures { (l : PageLayout) (p : Page) → length p.values ≡ count_by (nat_eq l.max_def_level) p.defs → Measures K.Kind.meaning l p page.now → kept min ≡ smallest K.Kind.meaning p.values → kept max ≡ largest K.Kind.meaning p.values → option_map said_marks result ≡ marks_in settings.mode (marks K.Kind.meaning l settings.cut_length p) }
+    ensures { (l : PageLayout) (p : Page) → length p.values ≡ count_by (nat_eq l.max_def_level) p.defs → Measures K.Kind.meaning l p page.now → kept min.now ≡ smallest K.Kind.meaning p.values → kept max.now ≡ largest K.Kind.meaning p.values → option_map said_marks result ≡ marks_in settings.mode (marks K.Kind.meaning l settings.cut_length p) }
 {
     match settings.mode {
         Mode::Chunk => None,
@@ -184,8 +184,11 @@ fn marks_in<K: Kind>(
 fn track_values<K: Kind>(pages: &mut Tracker, min: &Option<Buffer<128>>, max: &Option<Buffer<128>>)
     ensures { (ps : List Pair) → Tracks K.Kind.meaning ps pages.old → Tracks K.Kind.meaning (ps ++ pair_if (kept min.now) (kept max.now)) pages.new }
 {
-    if let (Some(low), Some(high)) = (*min, *max) {
-        pages.add::<K>(Bounds { low, high });
+    if let (Some(low), Some(high)) = (min, max) {
+        pages.add::<K>(Bounds {
+            low: *low,
+            high: *high,
+        });
     }
 }
 
@@ -198,10 +201,10 @@ fn track_stored<K: Kind>(
 )
     ensures { (ps : List Pair) → Tracks K.Kind.meaning ps pages.old → Tracks K.Kind.meaning (ps ++ stored_if K.Kind.meaning cut (kept min.now) (kept max.now)) pages.new }
 {
-    if let (Some(_), Some(_)) = (*min, *max) {
+    if let (Some(_), Some(_)) = (min, max) {
         pages.add::<K>(Bounds {
-            low: StoredBound::lower::<K>(cut, *min).bytes,
-            high: StoredBound::upper::<K>(cut, *max).bytes,
+            low: StoredBound::lower::<K>(cut, min).bytes,
+            high: StoredBound::upper::<K>(cut, max).bytes,
         });
     }
 }

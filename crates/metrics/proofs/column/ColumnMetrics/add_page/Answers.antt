@@ -22,9 +22,9 @@ returns g c = λ l p q n few-reps few-defs few-values fits t u lo hi.
       reps = c.add_if_there.ensures l.max_rep_level p.reps q.reps (omega arith) t.reps u.reps;
       defs = c.add_if_there-2.ensures most p.defs q.defs (omega arith) t.defs u.defs;
       min =
-          c.take_min.ensures ∙ ap (λ o. lesser m o (kept c.args.min)) t.min
+          c.take_min.ensures ∙ ap (λ o. lesser m o (kept c.args.min.now)) t.min
           ∙ ap (λ o. lesser m (smallest m p.values) o) lo ∙ sym (smallest-joined m p.values q.values);
       max =
-          c.take_max.ensures ∙ ap (λ o. higher m o (kept c.args.max)) t.max
+          c.take_max.ensures ∙ ap (λ o. higher m o (kept c.args.max.now)) t.max
           ∙ ap (λ o. higher m (largest m p.values) o) hi ∙ sym (largest-joined m p.values q.values);
     }

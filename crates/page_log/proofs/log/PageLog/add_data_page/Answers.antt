@@ -26,4 +26,4 @@ returns g c = λ d b col os ps p t u lo hi w size short.
     let sums = c.add_page.ensures (layout x) (joined ps) p n few.reps few.defs few.values few.bytes t.sums u lo hi in
     let values = c.track_values.ensures (value_pairs x.kind ps) t.values in
     let stored = c.track_stored.ensures (stored_pairs x.kind x.settings.cut_length ps) t.stored in
-    (room, logged_more x os ps c.args.offset c.args.size p c.args.min c.args.max old _ _ _ _ _ t w size short lo hi room pushed.1 is sums values stored)
+    (room, logged_more x os ps c.args.offset c.args.size p c.args.min.now c.args.max.now old _ _ _ _ _ t w size short lo hi room pushed.1 is sums values stored)
