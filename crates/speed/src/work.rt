@@ -165,11 +165,10 @@ fn part(levels: &[i16], from: usize, to: usize) -> LevelDataRef {
 
 // Asks for every entry, and answers how many there are.
 fn entries<K: Kind>(chunk: &Chunk<K>) -> usize {
-    let mut pages = 0;
     for k in 0..64 {
-        if chunk.entry(k).is_ok() {
-            pages = k.saturating_add(1);
+        if chunk.entry(k).is_err() {
+            return k;
         }
     }
-    pages
+    64
 }
