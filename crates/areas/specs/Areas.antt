@@ -1,6 +1,8 @@
 -- Areas of bytes and the places in them, from docs/sinks.md.
 use Rattle.std.specs.Prelude.{◌≡◌, ℕ, ◌+◌, Bool, true, false, cond, ◌&&◌, List, [], ◌∷◌, ◌++◌, map, length, take, drop, Ok, Err, Result, nat_le}
+use Rattle.std.specs.Coded.{×_prop, Unit-prop}
 use Rattle.std.proofs.Common.{sym, ◌∙◌}
+use native.Mathlib.Nat.{ℕ_set}
 use Rattle.std.proofs.lemmas.List.{length-map}
 use Rattle.sinks.specs.Refusals.{said, by_sink}
 use Rattle.sinks.specs.Stores.{StoreMeaning}
@@ -28,6 +30,10 @@ laid area at bs = cond (nat_le (at + length bs) (length area)) (take at area ++ 
 abbrev pub Tiles : ℕ → List Place → Type 0
 Tiles from [] = Unit {0}
 Tiles from (p ∷ ps) = (p.offset ≡ from) × Tiles (p.offset + p.len) ps
+
+pub Tiles-prop : (from : ℕ) (ps : List Place) → IsProp (Tiles from ps)
+Tiles-prop from [] = Unit-prop
+Tiles-prop from (p ∷ ps) = ×_prop (ℕ_set p.offset from) (Tiles-prop (p.offset + p.len) ps)
 
 -- where the last place ends, or the given offset where there is none
 abbrev pub end_of : ℕ → List Place → ℕ

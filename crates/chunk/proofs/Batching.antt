@@ -54,7 +54,6 @@ module _ {K L B S : Type 0} (x : Context) (m : StoreMeaning S) (w : SinkMeaning 
   -- with more on its open page the chunk stands to the ledger that has more there
   pub more_stands : (p : Page) (page : OpenPage) → is_open l.phase ≡ true → Opened x.kind (layout x) (join l.page p) page → Stands x m w o (adds l p) (record c { page = page })
   more_stands p page begun h = record {
-    sound = st.sound;
     offsets = st.offsets;
     pages_behind = st.pages_behind;
     offsets_behind = st.offsets_behind;

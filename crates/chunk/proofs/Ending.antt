@@ -63,7 +63,6 @@ module _ {K L B S : Type 0} (x : Context) (m : StoreMeaning S) (w : SinkMeaning 
 
   shut_stands : (n : ℕ) (c' : ColumnChunk K L B S) → is_open l.phase ≡ true → (turned n l).page ≡ blank → Stands x m w o (turned n l) c' → Stands x m w o (shut (turned n l)) (record c' { phase = Closed })
   shut_stands n c' h none st = record {
-    sound = st.sound;
     offsets = st.offsets;
     pages_behind = st.pages_behind;
     offsets_behind = st.offsets_behind;

@@ -41,7 +41,7 @@ module _ {K L B S : Type 0} (x : Context) (m : StoreMeaning S) (w : SinkMeaning 
   }
 
   pub wrote_page : (scr scr' : List ℕ) (sink : S) (log : PageLog) (page : OpenPage) (off : ℕ)
-      → accepted x ≡ true → (levels l.page ≡ 0 → ⊥) → tested {A = Unit {0}} tests (Ok tt) ≡ Ok tt → Grown m w c.sink (bytes x l.page) off sink
+      → accepted x ≡ true → (levels l.page ≡ 0 → ⊥) → tested {A = Unit {0}} tests (Ok tt) ≡ Ok tt → Grown m c.sink (bytes x l.page) off sink
       → Logged x (s.offsets ++ (off ∷ [])) (l.pages ++ (l.page ∷ [])) log → Opened x.kind (layout x) blank page
       → w.leaves c.sink (bytes x l.page) sink → scr' ≡ bytes x l.page ++ drop (length (bytes x l.page)) scr
       → Wrote x m w o l c scr (Ok 1) (record c { sink = sink; page = page; log = log }) scr'
@@ -49,7 +49,6 @@ module _ {K L B S : Type 0} (x : Context) (m : StoreMeaning S) (w : SinkMeaning 
     answer = sym (cond-false (eqb (levels l.page) 0) (Ok 0) (tested tests (Ok 1)) (ne_eqb (levels l.page) 0 z) ∙ tested_ok tests tt tt (Ok 1) h);
     left = record {
       stands = record {
-        sound = grown.sound;
         offsets = s.offsets ++ (off ∷ []);
         pages_behind = grown.pages ∙ ap (λ ps. ps ++ (bytes x l.page ∷ [])) s.pages_behind ∙ append_assoc o.pages (map (bytes x) l.pages) (bytes x l.page ∷ []) ∙ ap (λ ps. o.pages ++ ps) (sym (map_behind (bytes x) l.pages l.page));
         offsets_behind = grown.offsets ∙ ap (λ os. os ++ (off ∷ [])) s.offsets_behind ∙ append_assoc o.offsets s.offsets (off ∷ []);

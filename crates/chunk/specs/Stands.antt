@@ -35,7 +35,6 @@ is_accepted Refused = false
 -- the chunk holds what its ledger says: behind the pages that its sink had before, the written ones; the open page, and
 -- what is counted of both
 pub record Stands {K L B S : Type 0} (x : Context) (m : StoreMeaning S) (w : SinkMeaning S) (o : Before) (l : Ledger) (c : ColumnChunk K L B S) : Type 0 where
-  pub sound : w.sound c.sink
   pub offsets : List ℕ
   pub pages_behind : m.pages c.sink ≡ o.pages ++ map (bytes x) l.pages
   pub offsets_behind : m.offsets c.sink ≡ o.offsets ++ offsets
@@ -81,7 +80,7 @@ context_of m c b k = context m c b k.column k.settings
 
 -- what adding a page to a sink answers and leaves
 abbrev pub Out : {S : Type 0} → StoreMeaning S → SinkMeaning S → S → List ℕ → S → Result ℕ ChunkFault → Type 0
-Out m w k p k' (Ok o) = (w.takes k (length p) ≡ true) × (w.sound k → Grown m w k p o k') × w.leaves k p k'
+Out m w k p k' (Ok o) = (w.takes k (length p) ≡ true) × Grown m k p o k' × w.leaves k p k'
 Out m w k p k' (Err e) = (w.takes k (length p) ≡ false) × (k' ≡ k)
 
 -- the three changes that a call may make, by what it answered: of the chunk, its sink and the scratch

@@ -35,7 +35,7 @@ impl<K: Kind, L: LevelCoder, B: BodyCoder, S: PageSink> ColumnChunk<K, L, B, S> 
     // A chunk without pages. With a column or settings that are not allowed it is closed, and has no record.
     pub fn open(column: Column, settings: Settings, sink: S) -> ColumnChunk<K, L, B, S>
         ensures holds { result.sink ≡ sink }
-        ensures stands { S.PageSink.meaning.sound sink → Stands (context K.Kind.meaning L.LevelCoder.coding B.BodyCoder.body column settings) S.PageStore.meaning S.PageSink.meaning (held S.PageStore.meaning sink) (opened (context K.Kind.meaning L.LevelCoder.coding B.BodyCoder.body column settings)) result }
+        ensures stands { Stands (context K.Kind.meaning L.LevelCoder.coding B.BodyCoder.body column settings) S.PageStore.meaning S.PageSink.meaning (held S.PageStore.meaning sink) (opened (context K.Kind.meaning L.LevelCoder.coding B.BodyCoder.body column settings)) result }
     {
         let layout = layout(column, settings);
         let base = sink.count();

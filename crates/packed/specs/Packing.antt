@@ -1,16 +1,12 @@
 -- The layout of a packed sink, from docs/sinks.md.
-use Rattle.std.specs.Prelude.{◌≡◌, ℕ, ◌+◌, ◌≤◌, Bool, true, false, cond, ◌&&◌, List, [], ◌++◌, length, take, drop, codes, nat_le, nat_lt, set}
+use Rattle.std.specs.Prelude.{◌≡◌, ℕ, ◌+◌, ◌≤◌, Bool, true, false, cond, ◌&&◌, List, [], ◌++◌, length, take, drop, nat_le, nat_lt, set}
 use Rattle.std.specs.List.{flat_map}
-use Rattle.std.specs.List.Sorted.{IsNonDecreasingBy}
 use Rattle.sinks.specs.Sinks.{SinkMeaning}
 use Rattle.sinks.specs.Stores.{StoreMeaning}
-use Rattle.areas.specs.Areas.{allowed, store_of, laid, Tiles, end_of}
+use Rattle.areas.specs.Areas.{allowed, store_of, laid, end_of}
 use Rattle.areas.specs.declared.place.Place.{Place}
+use Rattle.packed.specs.Kept.{magic}
 use Rattle.packed.specs.declared.sink.PackedSink.{PackedSink}
-
--- the four bytes that the area begins with
-abbrev pub magic : List ℕ
-magic = codes "PAR1"
 
 -- the places of the pages
 abbrev pub places : PackedSink → List Place
@@ -32,13 +28,6 @@ fits_in s n = usable s && (nat_lt s.count (length s.table.now) && nat_le (end_in
 abbrev pub packed_store : StoreMeaning PackedSink
 packed_store = store_of (λ s. s.area.now) places
 
--- a well-formed packed sink: places in the table, without gaps and sorted, and within an area that begins with PAR1
-pub record Sound (s : PackedSink) : Type 0 where
-  pub tiled : Tiles 4 (places s)
-  pub sorted : IsNonDecreasingBy (λ p. p.offset) (places s)
-  pub begins : usable s ≡ true → take 4 s.area.now ≡ magic
-  pub within : usable s ≡ true → end_in s ≤ length s.area.now
-
 -- a page that is written: its bytes where the pages ended, its place in the table, and no other byte or place changed
 pub record Added (s : PackedSink) (p : List ℕ) (s' : PackedSink) : Type 0 where
   pub area : s'.area.now ≡ laid s.area.now (end_in s) p
@@ -48,7 +37,7 @@ pub record Added (s : PackedSink) (p : List ℕ) (s' : PackedSink) : Type 0 wher
 
 -- what a packed sink means to its writer
 abbrev pub packed_sink : SinkMeaning PackedSink
-packed_sink = record { takes = fits_in; sound = Sound; leaves = Added }
+packed_sink = record { takes = fits_in; leaves = Added }
 
 -- an area with PAR1 at its front, or as it was where no sink may use it
 abbrev pub begun : List ℕ → List ℕ
@@ -56,7 +45,6 @@ begun area = cond (allowed (length area)) (magic ++ drop 4 area) area
 
 -- a new sink over an area and a table: without pages, and with all their room but four bytes
 pub record Made (area : List ℕ) (table : List Place) (s : PackedSink) : Type 0 where
-  pub sound : Sound s
   pub pages : packed_store.pages s ≡ []
   pub takes : (n : ℕ) → fits_in s n ≡ (allowed (length area) && (nat_lt 0 (length table) && nat_le (4 + n) (length area)))
   pub front : s.area.now ≡ begun area
@@ -64,5 +52,5 @@ pub record Made (area : List ℕ) (table : List Place) (s : PackedSink) : Type 0
 
 -- what a sink shows of its area: PAR1 and the pages without gaps, or nothing where the area may not be used
 pub record Imaged (s : PackedSink) (bs : List ℕ) : Type 0 where
-  pub whole : Sound s → usable s ≡ true → bs ≡ magic ++ flat_map (λ b. b) (packed_store.pages s)
+  pub whole : usable s ≡ true → bs ≡ magic ++ flat_map (λ b. b) (packed_store.pages s)
   pub none : usable s ≡ false → bs ≡ []

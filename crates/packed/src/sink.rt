@@ -1,14 +1,19 @@
-ghost use Rattle.std.specs.Prelude.{◌≤◌, length};
+ghost use Rattle.std.specs.Prelude.{◌≤◌, length, take};
+ghost use Rattle.std.proofs.Props.{props};
+ghost use Rattle.areas.specs.Areas.{Tiles, Tiles-prop};
+ghost use Rattle.packed.specs.Kept.{Begins, Within};
 
 use areas::Place;
 
 // The first `count` pairs of the table are the places of the pages.
 // Lent, since nothing is allocated.
-// That its pages are well formed (`Sound`) is a word of every sink's meaning, and so no fact of this type.
 #[derive(Drop)]
 pub struct PackedSink<'a> {
     pub(crate) area: &'a mut [u8],
     pub(crate) table: &'a mut [Place],
     pub(crate) count: usize,
     ghost few: { count ≤ length table.now },
+    ghost tiled: { Tiles 4 (take count table.now) } by { Tiles-prop 4 (take count table.now) },
+    ghost begins: { Begins area.now } by { Prim.hlevel props },
+    ghost within: { Within area.now (take count table.now) } by { Prim.hlevel props },
 }

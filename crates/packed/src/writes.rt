@@ -1,6 +1,6 @@
 ghost use Rattle.std.specs.Prelude.{◌≡◌, true, length};
 ghost use Rattle.sinks.specs.Sinks.{Grown};
-ghost use Rattle.packed.specs.Packing.{packed_sink, packed_store, Sound, Added, end_in, fits_in};
+ghost use Rattle.packed.specs.Packing.{packed_sink, packed_store, Added, end_in, fits_in};
 
 use crate::sink::PackedSink;
 use crate::table::{end, enter};
@@ -32,7 +32,7 @@ impl<'a> PackedSink<'a> {
     // The same, as the sink's meaning has it. It stands apart so that a wrong byte is refused above, by itself.
     fn add(&mut self, page: &[u8]) -> usize
         requires { fits_in self.old (length page.now) ≡ true }
-        ensures grown { Sound self.old → Grown packed_store packed_sink self.old page.now result self.new }
+        ensures grown { Grown packed_store self.old page.now result self.new }
         ensures added { Added self.old page.now self.new }
     {
         self.put(page)

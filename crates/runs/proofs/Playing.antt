@@ -28,7 +28,7 @@ fed_all_more f l (d ∷ cs) (s ∷ rs) c r e = fed_all_more f (fed f l d s) cs r
 module _ {S : Type 0} (x : Context) (m : StoreMeaning S) (w : SinkMeaning S) (o : Before) (room : ℕ) where
   -- one call more, whose answer is fixed by the ledger of those before
   abbrev LastFixed : Ledger → Call → Answer → Type 0
-  LastFixed l c r = (k : S) × (w.sound k) × (m.pages k ≡ o.pages ++ map (bytes x) l.pages) × (r ≡ answer_to x (w.takes k) room l c)
+  LastFixed l c r = (k : S) × (m.pages k ≡ o.pages ++ map (bytes x) l.pages) × (r ≡ answer_to x (w.takes k) room l c)
 
   fixed_more : (l : Ledger) (cs : List Call) (rs : List Answer) (c : Call) (r : Answer) → AllFixed x m w o room l cs rs → LastFixed (fed_all (layout x) l cs rs) c r → AllFixed x m w o room l (cs ++ (c ∷ [])) (rs ++ (r ∷ []))
   fixed_more l [] [] c r a f = (f, refl)
@@ -59,7 +59,7 @@ module _ {K L B S : Type 0} (x : Context) (m : StoreMeaning S) (w : SinkMeaning 
       let p = played_at q call c s r c' s' a.stands h in
       record {
         stands = subst (λ y. Stands x m w o y c') (sym (fed_all_more (layout x) l cs rs call r e)) p.stands;
-        answers = fixed_more x m w o room l cs rs call r a.answers (c.sink, a.stands.sound, a.stands.pages_behind, p.answer ∙ ap (λ k. answer_to x (w.takes c.sink) k q call) n);
+        answers = fixed_more x m w o room l cs rs call r a.answers (c.sink, a.stands.pages_behind, p.answer ∙ ap (λ k. answer_to x (w.takes c.sink) k q call) n);
       }
 
 -- behind an empty page there is what there is

@@ -53,7 +53,7 @@ abbrev pub AllFixed : {S : Type 0} → Context → StoreMeaning S → SinkMeanin
 AllFixed x m w o room l [] rs = rs ≡ []
 AllFixed x m w o room l (c ∷ cs) [] = ⊥
 AllFixed {S} x m w o room l (c ∷ cs) (r ∷ rs) =
-    ((k : S) × (w.sound k) × (m.pages k ≡ o.pages ++ map (bytes x) l.pages) × (r ≡ answer_to x (w.takes k) room l c))
+    ((k : S) × (m.pages k ≡ o.pages ++ map (bytes x) l.pages) × (r ≡ answer_to x (w.takes k) room l c))
     × AllFixed x m w o room (fed (layout x) l c r) cs rs
 
 -- what calls that were played one after the other answered and left

@@ -37,7 +37,7 @@ pub fn replay<K: Kind, L: LevelCoder, B: BodyCoder, S: PageSink, V: ValueOf<K> +
     answers: &mut [Answer],
     scratch: &mut [u8],
 ) -> ColumnChunk<K, L, B, S>
-    ensures run { S.PageSink.meaning.sound sink → Ran (context K.Kind.meaning L.LevelCoder.coding B.BodyCoder.body column settings) S.PageStore.meaning S.PageSink.meaning (held S.PageStore.meaning sink) (length scratch.old) (take (min (length calls.now) (length answers.old)) (map (call_of V.ValueOf.bytes) calls.now)) (take (min (length calls.now) (length answers.old)) (map answer_of answers.new)) result }
+    ensures run { Ran (context K.Kind.meaning L.LevelCoder.coding B.BodyCoder.body column settings) S.PageStore.meaning S.PageSink.meaning (held S.PageStore.meaning sink) (length scratch.old) (take (min (length calls.now) (length answers.old)) (map (call_of V.ValueOf.bytes) calls.now)) (take (min (length calls.now) (length answers.old)) (map answer_of answers.new)) result }
     ensures rest { drop (min (length calls.now) (length answers.old)) answers.new ≡ drop (min (length calls.now) (length answers.old)) answers.old }
 {
     let mut chunk = ColumnChunk::open(column, settings, sink);

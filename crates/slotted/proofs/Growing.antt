@@ -9,7 +9,8 @@ use Rattle.areas.specs.Areas.{part, laid, Tiles, end_of}
 use Rattle.areas.specs.declared.place.Place.{Place}
 use Rattle.areas.proofs.Laying.{length-laid, take-laid, middle_laid, drop-laid}
 use Rattle.areas.proofs.Tiling.{end_push, tiles_push, part_same, pages-more}
-use Rattle.slotted.specs.Slots.{le16, pair_bytes, pair_at, pairs, places, end_in, gap, usable, fits_in, slotted_store, slotted_sink, Sound, Added}
+use Rattle.slotted.specs.Pairs.{le16, pair_bytes, pair_at, pairs}
+use Rattle.slotted.specs.Slots.{places, end_in, gap, usable, fits_in, slotted_store, Added}
 use Rattle.slotted.specs.declared.sink.SlottedSink.{SlottedSink}
 
 -- what a page that is taken needs, and how long the area is at most
@@ -112,8 +113,8 @@ module _ (a page a' : List ℕ) (at n : ℕ) (fits : at + 4 * n + (length page +
       ∙ ap (λ q. q ++ (record { offset = at; len = length page } ∷ [])) (fill_by_all (pair_at a) (map (pair_at a') (range_with_len 0 n)) n (place 0 0) (length-map-range_with_len (pair_at a') 0 n) (λ k lt. get_or-map-range_with_len (pair_at a') 0 n k k (place 0 0) lt (omega arith) ∙ pair_same k lt))
 
 pub grown : (s s' : SlottedSink) (page : List ℕ) (at : ℕ) → fits_in s (length page) ≡ true → at ≡ end_in s → Added s page s'
-    → Sound s → Grown slotted_store slotted_sink s page at s'
-grown s s' page at takes begin added sd =
+    → Grown slotted_store s page at s'
+grown s s' page at takes begin added =
     let a = s.area.now in
     let a' = s'.area.now in
     let from = end_in s in
@@ -123,16 +124,34 @@ grown s s' page at takes begin added sd =
     let fits : from + 4 * n + (length page + 4) ≤ length a = room.fits in
     let more : places s' ≡ places s ++ (q ∷ []) = ap (pairs a') added.count ∙ pairs_after a page a' from n fits room.small added.area in
     let same = before a page a' from n fits room.small added.area in
-    let long = length_after a page a' from n fits room.small added.area in
-    let end : end_in s' ≡ from + length page = ap (end_of 0) more ∙ end_push 0 (places s) q in
     record {
-      pages = ap (map (part a')) more ∙ pages-more a a' 0 (places s) q page sd.tiled same (page_there a page a' from n fits room.small added.area);
+      pages = ap (map (part a')) more ∙ pages-more a a' 0 (places s) q page s.tiled same (page_there a page a' from n fits room.small added.area);
       offsets = ap (map offset') more ∙ map_push offset' (places s) q ∙ ap (λ o. map offset' (places s) ++ (o ∷ [])) (sym begin);
-      sound = record {
-        tiled = subst (Tiles 0) (sym more) (tiles_push 0 (places s) q sd.tiled refl);
-        apart = omega arith;
-      };
     }
   where
     offset' : Place → ℕ
     offset' p = p.offset
+
+-- the facts that a sink keeps, once one more page is laid down and entered
+pub record Keeps (a : List ℕ) (n : ℕ) : Type 0 where
+  pub few : 4 * n ≤ length a
+  pub tiled : Tiles 0 (pairs a n)
+  pub apart : end_of 0 (pairs a n) + 4 * n ≤ length a
+
+pub keeps : (s : SlottedSink) (page a' : List ℕ) → fits_in s (length page) ≡ true
+    → a' ≡ laid (laid s.area.now (end_in s) page) (length s.area.now - 4 * (s.count + 1)) (pair_bytes (end_in s) (length page)) → Keeps a' (s.count + 1)
+keeps s page a' takes area =
+    let a = s.area.now in
+    let from = end_in s in
+    let q : Place = record { offset = from; len = length page } in
+    let n = s.count in
+    let room = room_from_takes s (length page) takes in
+    let fits : from + 4 * n + (length page + 4) ≤ length a = room.fits in
+    let more : pairs a' (n + 1) ≡ places s ++ (q ∷ []) = pairs_after a page a' from n fits room.small area in
+    let long : length a' ≡ length a = length_after a page a' from n fits room.small area in
+    let end : end_of 0 (pairs a' (n + 1)) ≡ from + length page = ap (end_of 0) more ∙ end_push 0 (places s) q in
+    record {
+      few = omega (arith, long);
+      tiled = subst (Tiles 0) (sym more) (tiles_push 0 (places s) q s.tiled refl);
+      apart = omega (arith, end, long);
+    }

@@ -5,11 +5,16 @@ use Rattle.std.specs.Option.{option_map_or}
 use Rattle.std.proofs.lemmas.List.{length-map}
 use Rattle.std.proofs.lemmas.List.FromFn.{length-map-range_with_len, get_or-map-range_with_len}
 use Rattle.std.proofs.lemmas.Option.{slice_get-get_or, slice_get_past}
-use Rattle.areas.specs.Areas.{part}
+use Rattle.areas.specs.Areas.{part, laid}
+use Rattle.areas.proofs.Laying.{length-laid}
 use Rattle.areas.proofs.Tiling.{end_last}
 use Rattle.areas.specs.declared.place.Place.{Place}
-use Rattle.slotted.specs.Slots.{pair_at, pairs, places, end_in, slotted_store}
+use Rattle.slotted.specs.Pairs.{pair_at, pairs}
+use Rattle.slotted.specs.Slots.{places, end_in, slotted_store}
 use Rattle.slotted.specs.declared.sink.SlottedSink.{SlottedSink}
+
+pub laid_length : (area : List ℕ) (at : ℕ) (bs : List ℕ) → at + length bs ≤ length area → length (laid area at bs) ≡ length area
+laid_length = length-laid
 
 pub length_pairs : (area : List ℕ) (n : ℕ) → length (pairs area n) ≡ n
 length_pairs area n = length-map-range_with_len (pair_at area) 0 n

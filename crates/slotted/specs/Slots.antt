@@ -1,27 +1,11 @@
 -- The layout of a slotted sink, from docs/sinks.md.
-use Rattle.std.specs.Prelude.{◌≡◌, ℕ, ◌+◌, ◌-◌, ◌*◌, ◌/◌, ◌%◌, ◌≤◌, Bool, ◌&&◌, List, [], ◌∷◌, map, length, nat_le, slice_index}
-use Rattle.std.specs.List.{range_with_len}
+use Rattle.std.specs.Prelude.{◌≡◌, ℕ, ◌+◌, ◌-◌, ◌*◌, Bool, ◌&&◌, List, [], length, nat_le}
 use Rattle.sinks.specs.Sinks.{SinkMeaning}
 use Rattle.sinks.specs.Stores.{StoreMeaning}
-use Rattle.areas.specs.Areas.{allowed, store_of, laid, Tiles, end_of}
+use Rattle.areas.specs.Areas.{allowed, store_of, laid, end_of}
 use Rattle.areas.specs.declared.place.Place.{Place}
+use Rattle.slotted.specs.Pairs.{pair_bytes, pairs}
 use Rattle.slotted.specs.declared.sink.SlottedSink.{SlottedSink}
-
--- the little-endian 16-bit number at an offset
-abbrev pub le16 : List ℕ → ℕ → ℕ
-le16 area at = slice_index area at + slice_index area (at + 1) * 256
-
--- the bytes of a pair: an offset, then a length
-abbrev pub pair_bytes : ℕ → ℕ → List ℕ
-pair_bytes o n = o % 256 ∷ o / 256 % 256 ∷ n % 256 ∷ n / 256 % 256 ∷ []
-
--- pair i, counted from the area's end
-abbrev pub pair_at : List ℕ → ℕ → Place
-pair_at area i = record { offset = le16 area (length area - 4 * (i + 1)); len = le16 area (length area - 4 * (i + 1) + 2) }
-
--- the pairs, the first page's first
-abbrev pub pairs : List ℕ → ℕ → List Place
-pairs area n = map (pair_at area) (range_with_len 0 n)
 
 -- the places of the pages
 abbrev pub places : SlottedSink → List Place
@@ -47,11 +31,6 @@ fits_in s n = usable s && nat_le (n + 4) (gap s)
 abbrev pub slotted_store : StoreMeaning SlottedSink
 slotted_store = store_of (λ s. s.area.now) places
 
--- a well-formed slotted sink: pages without gaps from offset 0, and no pair among them
-pub record Sound (s : SlottedSink) : Type 0 where
-  pub tiled : Tiles 0 (places s)
-  pub apart : end_in s + 4 * s.count ≤ length s.area.now
-
 -- a page that is written: its bytes where the pages ended, its pair before the others, and no other byte changed
 pub record Added (s : SlottedSink) (p : List ℕ) (s' : SlottedSink) : Type 0 where
   pub area : s'.area.now ≡ laid (laid s.area.now (end_in s) p) (length s.area.now - 4 * (s.count + 1)) (pair_bytes (end_in s) (length p))
@@ -60,11 +39,10 @@ pub record Added (s : SlottedSink) (p : List ℕ) (s' : SlottedSink) : Type 0 wh
 
 -- what a slotted sink means to its writer
 abbrev pub slotted_sink : SinkMeaning SlottedSink
-slotted_sink = record { takes = fits_in; sound = Sound; leaves = Added }
+slotted_sink = record { takes = fits_in; leaves = Added }
 
 -- a new sink over an area: without pages, the whole area its gap
 pub record Made (area : List ℕ) (s : SlottedSink) : Type 0 where
-  pub sound : Sound s
   pub pages : slotted_store.pages s ≡ []
   pub takes : (n : ℕ) → fits_in s n ≡ (allowed (length area) && nat_le (n + 4) (length area))
   pub same : s.area.now ≡ area

@@ -1,7 +1,8 @@
 ghost use Rattle.std.specs.Prelude.{◌≡◌, ◌+◌, ◌-◌, ◌*◌, ◌<◌, ◌≤◌, length};
 ghost use Rattle.std.specs.List.{slice_get};
 ghost use Rattle.areas.specs.Areas.{laid};
-ghost use Rattle.slotted.specs.Slots.{le16, pair_at, pair_bytes, places, end_in};
+ghost use Rattle.slotted.specs.Pairs.{le16, pair_at, pair_bytes};
+ghost use Rattle.slotted.specs.Slots.{places, end_in};
 
 use crate::sink::SlottedSink;
 use areas::{Place, lay};
@@ -30,7 +31,7 @@ fn coded(offset: u16, len: u16) -> [u8; 4]
 }
 
 // Writes pair i.
-pub(crate) fn enter(area: &mut [u8], i: usize, offset: usize, len: usize)
+fn enter(area: &mut [u8], i: usize, offset: usize, len: usize)
     requires room { 4 * (i + 1) ≤ length area.old }
     requires small { offset + len ≤ 65535 }
     ensures { area.new ≡ laid area.old (length area.old - 4 * (i + 1)) (pair_bytes offset len) }
@@ -38,6 +39,18 @@ pub(crate) fn enter(area: &mut [u8], i: usize, offset: usize, len: usize)
     let at = slot(area.len(), i);
     // Both fit 16 bits, as `small` says, so `as` loses nothing.
     lay(area, at, &coded(offset as u16, len as u16));
+}
+
+// Lays a page down at `at`, and writes pair i, which says where it lies.
+#[tactic(auto, using(crate::proofs::Slotting::laid_length))]
+pub(crate) fn lay_with_pair(area: &mut [u8], i: usize, at: usize, page: &[u8])
+    requires room { 4 * (i + 1) ≤ length area.old }
+    requires fits { at + length page.now ≤ length area.old }
+    requires small { at + length page.now ≤ 65535 }
+    ensures { area.new ≡ laid (laid area.old at page.now) (length area.old - 4 * (i + 1)) (pair_bytes at (length page.now)) }
+{
+    lay(area, at, page);
+    enter(area, i, at, page.len());
 }
 
 impl<'a> SlottedSink<'a> {

@@ -1,10 +1,10 @@
 ghost use Rattle.std.specs.Prelude.{◌≡◌, true, length};
 ghost use Rattle.sinks.specs.Sinks.{Grown};
-ghost use Rattle.slotted.specs.Slots.{slotted_sink, slotted_store, Sound, Added, end_in, gap, fits_in};
+ghost use Rattle.slotted.specs.Slots.{slotted_sink, slotted_store, Added, end_in, gap, fits_in};
 
-use crate::pairs::enter;
+use crate::pairs::lay_with_pair;
 use crate::sink::SlottedSink;
-use areas::{allowed_area, fits, lay};
+use areas::{allowed_area, fits};
 use sinks::{PageSink, PageStore, SinkFault};
 
 impl<'a> SlottedSink<'a> {
@@ -28,8 +28,7 @@ impl<'a> SlottedSink<'a> {
         ensures added { Added self.old page.now self.new }
     {
         let at = self.end();
-        lay(self.area, at, page);
-        enter(self.area, self.count, at, page.len());
+        lay_with_pair(self.area, self.count, at, page);
         self.count += 1;
         at
     }
@@ -37,7 +36,7 @@ impl<'a> SlottedSink<'a> {
     // The same, as the sink's meaning has it. It stands apart so that a wrong byte is refused above, by itself.
     fn add(&mut self, page: &[u8]) -> usize
         requires { fits_in self.old (length page.now) ≡ true }
-        ensures grown { Sound self.old → Grown slotted_store slotted_sink self.old page.now result self.new }
+        ensures grown { Grown slotted_store self.old page.now result self.new }
         ensures added { Added self.old page.now self.new }
     {
         self.put(page)

@@ -8,12 +8,12 @@ use Rattle.runs.proofs.Playing.{same_context, ran}
 use Rattle.runs.proofs.replaying.replay.Goals as goal
 
 pub returns-clause-run : goal.returns-clause-run
-returns-clause-run g c = λ sound.
+returns-clause-run g c =
     let x : Context = context g.K.Kind.meaning g.L.LevelCoder.coding g.B.BodyCoder.body c.args.column c.args.settings in
     let m = g.S.PageStore.meaning in
     let w = g.S.PageSink.meaning in
     let o = held m c.args.sink in
-    let st = c.open-chunk.ensures.stands sound in
+    let st = c.open-chunk.ensures.stands in
     let e = same_context x m w o (opened x) c.open-chunk.result st in
     let n : ℕ = min (length c.args.calls.now) (length c.args.answers.now) in
     let cs = take n (map (call_of g.V.ValueOf.bytes) c.args.calls.now) in

@@ -71,7 +71,7 @@ returns g c = λ o l s.
     wrote_page x m w o l c.args.self.now s c.args.scratch.now c.build_page.new.scratch c.write_out.new.sink c.add_data_page.new.self c.clear.new.self c.in_ok-offset.offset
     (open_accepted l.phase (accepted x) (ap is_open (sym s.phase) ∙ c.requires.phase) s.allowed)
     (λ z. c.if-level_count-eq0.false (c.level_count.ensures.page x.kind (layout x) l.page s.page ∙ z)) h
-    (subst (λ p. Grown m w c.args.self.now.sink p c.in_ok-offset.offset c.write_out.new.sink) fr (c.in_ok-offset.ensures.1 s.sound))
+    (subst (λ p. Grown m c.args.self.now.sink p c.in_ok-offset.offset c.write_out.new.sink) fr c.in_ok-offset.ensures.1)
     (logged_more x s.offsets l.pages c.in_ok-offset.offset l.page c.args.self.now.log c.add_data_page.new.self c.add_data_page.result t logged)
     (subst (λ y. Opened x.kind y blank c.clear.new.self) c.layout-layout.ensures (c.clear.ensures (subst Allowed (sym c.layout-layout.ensures) (layout_allowed x.column x.settings))))
     (subst (λ p. w.leaves c.args.self.now.sink p c.write_out.new.sink) fr c.in_ok-offset.ensures.2)

@@ -9,11 +9,10 @@ use Rattle.open_page.proofs.Accepted.{layout_allowed}
 use Rattle.chunk.proofs.chunk.ColumnChunk.open.Goals as goal
 
 pub returns-clause-stands : goal.returns-clause-stands
-returns-clause-stands g c = λ sound.
+returns-clause-stands g c =
     let x : Context = context g.K.Kind.meaning g.L.LevelCoder.coding g.B.BodyCoder.body c.args.column c.args.settings in
     let m = g.S.PageStore.meaning in
     record {
-      sound = sound;
       offsets = [];
       pages_behind = sym (append-nil (m.pages c.args.sink));
       offsets_behind = sym (append-nil (m.offsets c.args.sink));
