@@ -4,3 +4,4 @@ pub mod Pages
 pub mod Refusals
 pub mod Reading
 pub mod Counts
+pub mod Sinking

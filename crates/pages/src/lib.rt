@@ -8,6 +8,7 @@ mod fault;
 mod layout;
 mod list;
 mod reading;
+mod sinking;
 mod size;
 
 pub use assembly::assemble;
@@ -15,4 +16,5 @@ pub use counts::PageCounts;
 pub use fault::PageFault;
 pub use layout::Layout;
 pub use reading::read_page;
+pub use sinking::{takes_page, write_page};
 pub use size::page_size;
