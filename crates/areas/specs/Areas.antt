@@ -1,5 +1,6 @@
 -- Areas of bytes and the places in them, from docs/sinks.md.
 use Rattle.std.specs.Prelude.{◌≡◌, ℕ, ◌+◌, Bool, true, false, cond, ◌&&◌, List, [], ◌∷◌, ◌++◌, map, length, take, drop, Ok, Err, Result, nat_le}
+use Rattle.std.specs.Borrow.{MutBor}
 use Rattle.std.specs.Coded.{×_prop, Unit-prop}
 use Rattle.std.proofs.Common.{sym, ◌∙◌}
 use native.Mathlib.Nat.{ℕ_set}
@@ -47,3 +48,11 @@ store_of area places = record {
   offsets = λ s. map (λ (p : Place). p.offset) (places s);
   paired = λ s. length-map (places s) (λ (p : Place). p.offset) ∙ sym (length-map (places s) (part (area s)));
 }
+
+-- two references to one memory
+abbrev pub SameMemory : {X : Type 0} → MutBor X → MutBor X → Type 0
+SameMemory a b = (a.ref_ptr ≡ b.ref_ptr) × (a.ghost_name ≡ b.ghost_name)
+
+-- two that refer to the memory of a third, and hold the same, are one
+pub same_ref : {X : Type 0} (r a b : MutBor X) → SameMemory a r → SameMemory b r → a.now ≡ b.now → a ≡ b
+same_ref r a b x y now = λ i. record { ref_ptr = (x.0 ∙ sym y.0) i; ghost_name = (x.1 ∙ sym y.1) i; now = now i }

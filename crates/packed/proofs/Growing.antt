@@ -1,5 +1,5 @@
 -- A packed sink with one more page: what its table and its area then hold.
-use Rattle.std.proofs.Common.{◌≡◌, ℕ, ◌+◌, ◌≤◌, set, min, true, ltb, List, [], ◌∷◌, ◌++◌, map, length, take, sym, refl, ap, ◌∙◌, subst, arith}
+use Rattle.std.proofs.Common.{◌≡◌, ℕ, ◌+◌, ◌≤◌, set, min, true, ltb, List, [], ◌∷◌, ◌++◌, map, length, take, sym, ap, ◌∙◌, subst, arith}
 use Rattle.std.specs.List.{flat_map}
 use Rattle.std.proofs.lemmas.List.{map_push, take_more_set, take-take, length-set}
 use Rattle.std.proofs.lemmas.Bool.{and_parts, both_ways, ltb-true, leb-true}
@@ -8,7 +8,7 @@ use Rattle.areas.specs.Areas.{part, laid, Tiles, end_of}
 use Rattle.areas.specs.declared.place.Place.{Place}
 use Rattle.areas.proofs.Laying.{length-laid, take-laid, middle_laid}
 use Rattle.areas.proofs.Tiling.{end_push, tiles_push, tiles_end, rises_from_tiles, pages-more, tiles_image}
-use Rattle.packed.specs.Packing.{places, end_in, usable, fits_in, packed_store, Added, Imaged}
+use Rattle.packed.specs.Packing.{places, end_in, usable, fits_in, packed_store, Added, WellFormed, Imaged}
 use Rattle.packed.specs.Kept.{Begins, Within}
 use Rattle.packed.specs.declared.sink.PackedSink.{PackedSink}
 
@@ -74,3 +74,6 @@ keeps s page a' t' at takes begin table area =
       begins = λ _. sym (take-take 4 at a' (omega (arith, begin))) ∙ ap (take 4) same ∙ take-take 4 at a (omega (arith, begin)) ∙ s.begins test.0;
       within = λ _. omega (arith, end, long);
     }
+
+pub well_formed : (s : PackedSink) → WellFormed s
+well_formed s = record { tiled = s.tiled; sorted = rises_from_tiles 4 (places s) s.tiled; few = s.few; front = s.begins; within = s.within }

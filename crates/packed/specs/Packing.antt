@@ -1,9 +1,10 @@
 -- The layout of a packed sink, from docs/sinks.md.
 use Rattle.std.specs.Prelude.{◌≡◌, ℕ, ◌+◌, ◌≤◌, Bool, true, false, cond, ◌&&◌, List, [], ◌++◌, length, take, drop, nat_le, nat_lt, set}
 use Rattle.std.specs.List.{flat_map}
+use Rattle.std.specs.List.Sorted.{IsNonDecreasingBy}
 use Rattle.sinks.specs.Sinks.{SinkMeaning}
 use Rattle.sinks.specs.Stores.{StoreMeaning}
-use Rattle.areas.specs.Areas.{allowed, store_of, laid, end_of}
+use Rattle.areas.specs.Areas.{allowed, store_of, laid, Tiles, end_of, SameMemory}
 use Rattle.areas.specs.declared.place.Place.{Place}
 use Rattle.packed.specs.Kept.{magic}
 use Rattle.packed.specs.declared.sink.PackedSink.{PackedSink}
@@ -24,6 +25,14 @@ usable s = allowed (length s.area.now)
 abbrev pub fits_in : PackedSink → ℕ → Bool
 fits_in s n = usable s && (nat_lt s.count (length s.table.now) && nat_le (end_in s + n) (length s.area.now))
 
+-- the pages lie one behind the other without gaps, their pairs sorted by offset, in the table; in an area that may be used behind PAR1, and not past its end
+pub record WellFormed (s : PackedSink) : Type 0 where
+  pub tiled : Tiles 4 (places s)
+  pub sorted : IsNonDecreasingBy (λ (p : Place). p.offset) (places s)
+  pub few : s.count ≤ length s.table.now
+  pub front : usable s ≡ true → take 4 s.area.now ≡ magic
+  pub within : usable s ≡ true → end_in s ≤ length s.area.now
+
 -- pages are what the area holds at the places of the table
 abbrev pub packed_store : StoreMeaning PackedSink
 packed_store = store_of (λ s. s.area.now) places
@@ -33,7 +42,7 @@ pub record Added (s : PackedSink) (p : List ℕ) (s' : PackedSink) : Type 0 wher
   pub area : s'.area.now ≡ laid s.area.now (end_in s) p
   pub table : s'.table.now ≡ set s.table.now s.count (record { offset = end_in s; len = length p })
   pub count : s'.count ≡ s.count + 1
-  pub lent : (s'.area.ghost_name ≡ s.area.ghost_name) × (s'.table.ghost_name ≡ s.table.ghost_name)
+  pub lent : SameMemory s'.area s.area × SameMemory s'.table s.table
 
 -- what a packed sink means to its writer
 abbrev pub packed_sink : SinkMeaning PackedSink

@@ -1,6 +1,6 @@
 ghost use Rattle.std.specs.Prelude.{◌≡◌, length};
 ghost use Rattle.areas.specs.Areas.{Checked};
-ghost use Rattle.packed.specs.Packing.{begun, Made, Imaged};
+ghost use Rattle.packed.specs.Packing.{begun, Made, WellFormed, Imaged};
 
 use crate::sink::PackedSink;
 use crate::table::end;
@@ -51,8 +51,10 @@ impl<'a> PackedSink<'a> {
         &self.area[..n]
     }
 
-    // Gives the area and the table back, as they stand.
+    // Gives the area and the table back, as they stand: whatever was written, they are well formed.
+    #[tactic(auto, using(crate::proofs::Growing::well_formed))]
     pub fn into_parts(self) -> (&'a mut [u8], &'a mut [Place])
+        ensures formed { WellFormed self.entry }
         ensures area { result.0.now ≡ self.entry.area.now }
         ensures table { result.1.now ≡ self.entry.table.now }
         ensures lent { (result.0.ghost_name ≡ self.entry.area.ghost_name) × (result.1.ghost_name ≡ self.entry.table.ghost_name) }

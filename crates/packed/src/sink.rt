@@ -1,7 +1,6 @@
 ghost use Rattle.std.specs.Prelude.{◌≤◌, length, take};
-ghost use Rattle.std.proofs.Props.{props};
 ghost use Rattle.areas.specs.Areas.{Tiles, Tiles-prop};
-ghost use Rattle.packed.specs.Kept.{Begins, Within};
+ghost use Rattle.packed.specs.Kept.{Begins, Begins-prop, Within, Within-prop};
 
 use areas::Place;
 
@@ -14,6 +13,6 @@ pub struct PackedSink<'a> {
     pub(crate) count: usize,
     ghost few: { count ≤ length table.now },
     ghost tiled: { Tiles 4 (take count table.now) } by { Tiles-prop 4 (take count table.now) },
-    ghost begins: { Begins area.now } by { Prim.hlevel props },
-    ghost within: { Within area.now (take count table.now) } by { Prim.hlevel props },
+    ghost begins: { Begins area.now } by { Begins-prop area.now },
+    ghost within: { Within area.now (take count table.now) } by { Within-prop area.now (take count table.now) },
 }

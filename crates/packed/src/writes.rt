@@ -1,5 +1,6 @@
 ghost use Rattle.std.specs.Prelude.{◌≡◌, true, length};
 ghost use Rattle.sinks.specs.Sinks.{Grown};
+ghost use Rattle.packed.specs.Once.{once};
 ghost use Rattle.packed.specs.Packing.{packed_sink, packed_store, Added, end_in, fits_in};
 
 use crate::sink::PackedSink;
@@ -55,4 +56,6 @@ impl<'a> PageSink for PackedSink<'a> {
         self.takes(page.len())?;
         Ok(self.add(page))
     }
+
+    ghost leaves_once = { once };
 }

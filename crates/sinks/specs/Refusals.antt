@@ -24,5 +24,5 @@ said (Full n) = by_sink 25 (n ∷ [])
 
 -- the same in words
 abbrev pub message : SinkFault → List ℕ
-message Area = codes "the area has fewer than 4 or more than 65535 bytes"
+message Area = codes "the area has a size that the sink does not use"
 message (Full n) = codes "the sink does not take a page of " ++ decimal n ++ codes " bytes"

@@ -41,7 +41,7 @@ impl fmt::Display for SinkFault {
 
     fn fmt<W: fmt::Write>(&self, f: &mut fmt::Formatter<W>) -> fmt::Result {
         match self {
-            SinkFault::Area => write!(f, "the area has fewer than 4 or more than 65535 bytes"),
+            SinkFault::Area => write!(f, "the area has a size that the sink does not use"),
             SinkFault::Full(len) => write!(f, "the sink does not take a page of {len} bytes"),
         }
     }

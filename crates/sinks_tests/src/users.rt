@@ -8,8 +8,7 @@ use packed::PackedSink;
 use sinks::{PageSink, SinkFault};
 use slotted::SlottedSink;
 
-// What is proved for every sink, at each of the two: makers are sound, so the first page
-// comes back whole. Two functions, each with its maker, so that neither has a premise.
+// What is proved for every sink, at each of the two: the first page comes back whole.
 fn two_packed(
     area: &mut [u8],
     table: &mut [Place],

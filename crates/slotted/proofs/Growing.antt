@@ -8,9 +8,9 @@ use Rattle.sinks.specs.Sinks.{Grown}
 use Rattle.areas.specs.Areas.{part, laid, Tiles, end_of}
 use Rattle.areas.specs.declared.place.Place.{Place}
 use Rattle.areas.proofs.Laying.{length-laid, take-laid, middle_laid, drop-laid}
-use Rattle.areas.proofs.Tiling.{end_push, tiles_push, part_same, pages-more}
+use Rattle.areas.proofs.Tiling.{end_push, tiles_push, rises_from_tiles, part_same, pages-more}
 use Rattle.slotted.specs.Pairs.{le16, pair_bytes, pair_at, pairs}
-use Rattle.slotted.specs.Slots.{places, end_in, gap, usable, fits_in, slotted_store, Added}
+use Rattle.slotted.specs.Slots.{places, end_in, gap, usable, fits_in, slotted_store, Added, WellFormed}
 use Rattle.slotted.specs.declared.sink.SlottedSink.{SlottedSink}
 
 -- what a page that is taken needs, and how long the area is at most
@@ -155,3 +155,6 @@ keeps s page a' takes area =
       tiled = subst (Tiles 0) (sym more) (tiles_push 0 (places s) q s.tiled refl);
       apart = omega (arith, end, long);
     }
+
+pub well_formed : (s : SlottedSink) → WellFormed s
+well_formed s = record { tiled = s.tiled; sorted = rises_from_tiles 0 (places s) s.tiled; apart = s.apart }

@@ -1,8 +1,9 @@
 -- The layout of a slotted sink, from docs/sinks.md.
-use Rattle.std.specs.Prelude.{◌≡◌, ℕ, ◌+◌, ◌-◌, ◌*◌, Bool, ◌&&◌, List, [], length, nat_le}
+use Rattle.std.specs.Prelude.{◌≡◌, ℕ, ◌+◌, ◌-◌, ◌*◌, ◌≤◌, Bool, ◌&&◌, List, [], length, nat_le}
+use Rattle.std.specs.List.Sorted.{IsNonDecreasingBy}
 use Rattle.sinks.specs.Sinks.{SinkMeaning}
 use Rattle.sinks.specs.Stores.{StoreMeaning}
-use Rattle.areas.specs.Areas.{allowed, store_of, laid, end_of}
+use Rattle.areas.specs.Areas.{allowed, store_of, laid, Tiles, end_of, SameMemory}
 use Rattle.areas.specs.declared.place.Place.{Place}
 use Rattle.slotted.specs.Pairs.{pair_bytes, pairs}
 use Rattle.slotted.specs.declared.sink.SlottedSink.{SlottedSink}
@@ -27,6 +28,12 @@ usable s = allowed (length s.area.now)
 abbrev pub fits_in : SlottedSink → ℕ → Bool
 fits_in s n = usable s && nat_le (n + 4) (gap s)
 
+-- the pages lie one behind the other without gaps, their pairs in order of offset, and the last page ends before the pairs begin
+pub record WellFormed (s : SlottedSink) : Type 0 where
+  pub tiled : Tiles 0 (places s)
+  pub sorted : IsNonDecreasingBy (λ (p : Place). p.offset) (places s)
+  pub apart : end_in s + 4 * s.count ≤ length s.area.now
+
 -- pages are what the area holds at the places of its pairs
 abbrev pub slotted_store : StoreMeaning SlottedSink
 slotted_store = store_of (λ s. s.area.now) places
@@ -35,7 +42,7 @@ slotted_store = store_of (λ s. s.area.now) places
 pub record Added (s : SlottedSink) (p : List ℕ) (s' : SlottedSink) : Type 0 where
   pub area : s'.area.now ≡ laid (laid s.area.now (end_in s) p) (length s.area.now - 4 * (s.count + 1)) (pair_bytes (end_in s) (length p))
   pub count : s'.count ≡ s.count + 1
-  pub lent : s'.area.ghost_name ≡ s.area.ghost_name
+  pub lent : SameMemory s'.area s.area
 
 -- what a slotted sink means to its writer
 abbrev pub slotted_sink : SinkMeaning SlottedSink

@@ -1,6 +1,6 @@
 ghost use Rattle.std.specs.Prelude.{◌≡◌, length};
 ghost use Rattle.areas.specs.Areas.{Checked};
-ghost use Rattle.slotted.specs.Slots.{Made};
+ghost use Rattle.slotted.specs.Slots.{Made, WellFormed};
 
 use crate::sink::SlottedSink;
 use areas::check_area;
@@ -22,8 +22,10 @@ impl<'a> SlottedSink<'a> {
         check_area(self.area.len())
     }
 
-    // Gives the area back, as it stands.
+    // Gives the area back, as it stands: whatever was written, it is well formed.
+    #[tactic(auto, using(crate::proofs::Growing::well_formed))]
     pub fn into_area(self) -> &'a mut [u8]
+        ensures formed { WellFormed self.entry }
         ensures area { result.now ≡ self.entry.area.now }
         ensures lent { result.ghost_name ≡ self.entry.area.ghost_name }
     {

@@ -1,5 +1,6 @@
 ghost use Rattle.std.specs.Prelude.{◌≡◌, true, length};
 ghost use Rattle.sinks.specs.Sinks.{Grown};
+ghost use Rattle.slotted.specs.Once.{once};
 ghost use Rattle.slotted.specs.Slots.{slotted_sink, slotted_store, Added, end_in, gap, fits_in};
 
 use crate::pairs::lay_with_pair;
@@ -59,4 +60,6 @@ impl<'a> PageSink for SlottedSink<'a> {
         self.takes(page.len())?;
         Ok(self.add(page))
     }
+
+    ghost leaves_once = { once };
 }

@@ -6,7 +6,5 @@ returns g c =
     let one = c.in_ok-write.ensures in
     let two = c.in_ok-write-2.ensures in (
       one.0,
-      λ sound.
-          let first = one.1 sound in
-          both_from_grown g.S.PageStore.meaning g.S.PageSink.meaning c.args.sink.now c.write.new.self c.write-2.new.self c.args.first.now c.args.second.now _ _ c.count-k.result c.args.out.now c.copy.new.out c.copy.result first (two.1 first.sound) c.count-k.ensures.exact c.copy.ensures,
+      both_from_grown g.S.PageStore.meaning c.args.sink.now c.write.new.self c.write-2.new.self c.args.first.now c.args.second.now _ _ c.count-k.result c.args.out.now c.copy.new.out c.copy.result one.1 two.1 c.count-k.ensures.exact c.copy.ensures,
     )

@@ -1,4 +1,4 @@
-use Rattle.std.proofs.Common.{◌≡◌, ℕ, List, length, ◌-◌, ◌*◌, ◌+◌, ◌∙◌, ap}
+use Rattle.std.proofs.Common.{ℕ, List, length, ◌-◌, ◌*◌, ◌+◌, ◌∙◌, ap}
 use Rattle.areas.specs.Areas.{laid}
 use Rattle.slotted.specs.Pairs.{pair_bytes}
 use Rattle.slotted.proofs.Growing.{keeps}
