@@ -2,8 +2,8 @@
 """Checks docs/ledger.md against docs/RULES.md and the definitions: `python3 tools/rules.py`, at the top of the repository.
 
 Each row names a section of docs/RULES.md, words that must stand there, and definitions that must exist. Every public definition of
-the ledger's crates must be named. The refusals' numbers, layers and positions, and the order in which calls test for them, are read
-off the definitions and compared with section 9. It prints what fails and ends with status 1, or says how much it checked.
+the ledger's crates must be named. The refusals' numbers, layers and positions, and the order in which calls test for them, which
+is proved of the tests, are read off the definitions and compared with section 9. It prints what fails and ends with status 1, or says how much it checked.
 """
 import os
 import re
@@ -73,38 +73,36 @@ def rows(rules):
 
 
 def refusals(rules):
-    """The numbers of the faults, by name, as the three definitions have them; and the same against the table of section 9."""
-    said, numbers = {}, {}
+    """The numbers, layers and positions of the faults, as the three definitions have them, against the table of section 9."""
+    said = {}
     for crate, name, layer in [("refusals", "said_chunk", "chunk"), ("pages", "said_page", "page"), ("sinks", "said", "sink")]:
-        for fault, number, rest in re.findall(rf"(?m)^{name} \(?(\w+)[^=]*= by_\w+ (\d+) ?(.*)", read("crates", crate, "specs", "Refusals.antt")):
-            numbers[fault] = int(number)
-            said[int(number)] = (layer, rest.strip() == "at")
+        for at, number in re.findall(rf"(?m)^{name} [^=]*= by_{layer}(_at)? (\d+)", read("crates", crate, "specs", "Refusals.antt")):
+            said[int(number)] = (layer, bool(at))
     table = {int(n): (layer, bool(at)) for n, layer, at in re.findall(r"\| (\d+) \| (\w+) \| [^|]*\| ([^|]*?) ?(?=\|)", rules[9])}
     need(said == table, f"the refusals differ: {sorted(set(said.items()) ^ set(table.items()))}")
-    return numbers
+    return {n: layer for n, (layer, _) in said.items()}
 
 
-def order(rules, numbers):
-    """The order of tests, read off the definitions, against the last paragraph of section 9."""
-    def tests(crate, file, name):
+def order(rules, layers):
+    """The order of refusals, which is proved of each call's tests, against the last paragraph of section 9."""
+    def refused(crate, file, name):
         found = []
-        for word in re.findall(r"\b\w+\b", body(crate, file, name)):
-            if word in numbers and numbers[word] not in found:
-                found.append(numbers[word])
-            elif word in ("intake_tests", "level_tests", "value_tests") and word != name:
-                found += [n for n in tests("ledger", "Batches", word) if n not in found]
+        for layer, number, other in re.findall(r"\bby_(\w+?)(?:_at)? (\d+)|\b(intake_order)\b", body(crate, file, name)):
+            if other == name:
+                continue
+            if not other:
+                need(layers.get(int(number)) == layer, f"{name} has {number} of the layer {layer}")
+            found += [n for n in ([int(number)] if number else refused(crate, file, other)) if n not in found]
         return found
 
-    names = dict(numbers, OfPage=None, ColumnFault=1, SettingsFault=2)
-    numbers = {k: v for k, v in names.items() if v}
     said = {
-        "`check`": tests("columns", "Columns", "checked"),
-        "`batch`": tests("ledger", "Answers", "batch_tests"),
-        "`cut` and `close`": tests("ledger", "Answers", "end_tests"),
-        "not empty": tests("ledger", "Answers", "write_tests"),
-        "`read`": tests("ledger", "Answers", "read_answer"),
-        "`entry`": tests("ledger", "Answers", "entry_answer"),
-        "`record`": tests("ledger", "Answers", "record_answer"),
+        "`check`": refused("columns", "Columns", "check_order"),
+        "`batch`": refused("ledger", "Numbers", "batch_order"),
+        "`cut` and `close`": refused("ledger", "Numbers", "end_order"),
+        "not empty": refused("ledger", "Numbers", "write_order"),
+        "`read`": refused("ledger", "Numbers", "read_order"),
+        "`entry`": refused("ledger", "Numbers", "entry_order"),
+        "`record`": refused("ledger", "Numbers", "record_order"),
     }
     text = rules[9][rules[9].index("The order in which"):]
     for call, wanted in said.items():

@@ -1,10 +1,11 @@
 -- Which columns and settings a chunk accepts.
-use Rattle.std.specs.Prelude.{ℕ, Bool, true, cond, not, ◌&&◌, ◌||◌, [], ◌∷◌, ℤ, pos, negsuc, Some, None, Ok, Option, Result, ◌==◌, int_le, nat_le}
+use Rattle.std.specs.Prelude.{ℕ, Bool, true, cond, not, ◌&&◌, ◌||◌, List, [], ◌∷◌, ℤ, pos, negsuc, Some, None, Ok, Option, Result, ◌==◌, int_le, nat_le}
 use Rattle.kinds.specs.Meaning.{Meaning, admitted}
 use Rattle.level_coder.specs.Coding.{Coding}
 use Rattle.body_coder.specs.Body.{Body}
 use Rattle.pages.specs.declared.layout.Layout.{Layout}
-use Rattle.refusals.specs.Refusals.{tested, refuses}
+use Rattle.sinks.specs.Refusals.{Refusal}
+use Rattle.refusals.specs.Refusals.{Test, tested, refuses, by_chunk, Numbered}
 use Rattle.refusals.specs.declared.fault.ChunkFault.{ChunkFault}
 use Rattle.refusals.specs.declared.fault.ChunkFault.TheVariants.{Column as ColumnFault, Settings as SettingsFault}
 use Rattle.columns.specs.declared.column.Column.{Column}
@@ -37,10 +38,21 @@ settings_fit c b col set =
     within 1 2 set.version && (within 1 512 set.row_limit && (within 1 4096 set.size_limit
     && (cut_fits set.cut_length && coders_fit c b col.width set.version)))
 
--- the answer to a check: the column is looked at first
+-- what a check tests: the column is looked at first
+abbrev pub check_tests : Meaning → Coding → Body → Column → Settings → List Test
+check_tests m c b col set = refuses (not (column_fits m col)) ColumnFault ∷ refuses (not (settings_fit c b col set)) SettingsFault ∷ []
+
+-- the answer to a check
 abbrev pub checked : Meaning → Coding → Body → Column → Settings → Result Unit ChunkFault
-checked m c b col set =
-    tested (refuses (not (column_fits m col)) ColumnFault ∷ refuses (not (settings_fit c b col set)) SettingsFault ∷ []) (Ok tt)
+checked m c b col set = tested (check_tests m c b col set) (Ok tt)
+
+-- the refusals of a check, in the order of its tests
+abbrev pub check_order : List Refusal
+check_order = by_chunk 1 ∷ by_chunk 2 ∷ []
+
+-- any column and settings are tested in that order, and refused for one of these
+pub record CheckNumbered : Type 0 where
+  pub each : (m : Meaning) (c : Coding) (b : Body) (col : Column) (set : Settings) → Numbered (check_tests m c b col set) (checked m c b col set) check_order
 
 -- both are allowed
 abbrev pub accepted : Meaning → Coding → Body → Column → Settings → Bool

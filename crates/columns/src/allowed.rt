@@ -1,5 +1,5 @@
 ghost use Rattle.std.specs.Prelude.{◌≡◌, ◌&&◌};
-ghost use Rattle.columns.specs.Columns.{within, column_fits, coders_fit, settings_fit, checked, level_of, width_of, layout_of};
+ghost use Rattle.columns.specs.Columns.{within, column_fits, coders_fit, settings_fit, checked, level_of, width_of, layout_of, CheckNumbered};
 
 use crate::column::Column;
 use crate::settings::Settings;
@@ -10,11 +10,13 @@ use pages::Layout;
 use refusals::ChunkFault;
 
 // Whether a column and settings are allowed. They are two arguments, since one column may be written in many ways.
+#[tactic(auto, using(crate::proofs::Checking::check_numbered))]
 pub fn check<K: Kind, L: LevelCoder, B: BodyCoder>(
     column: Column,
     settings: Settings,
 ) -> Result<(), ChunkFault>
-    ensures { result ≡ checked K.Kind.meaning L.LevelCoder.coding B.BodyCoder.body column settings }
+    ensures answer { result ≡ checked K.Kind.meaning L.LevelCoder.coding B.BodyCoder.body column settings }
+    ensures numbers { CheckNumbered }
 {
     if !column.is_allowed::<K>() {
         return Err(ChunkFault::Column);

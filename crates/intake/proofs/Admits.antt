@@ -1,5 +1,5 @@
 -- What is known of a batch that is not refused by itself.
-use Rattle.std.proofs.Common.{◌≡◌, ℕ, zero, suc, ◌≤◌, Bool, true, false, not, ◌&&◌, eqb, List, [], map, length, replicate, ℤ, pos, negsuc, IfOk, Ok, Err, Option, Result, unwrap_or, sym, ap, ◌∙◌, subst, ⊎_elim, arith}
+use Rattle.std.proofs.Common.{◌≡◌, ℕ, zero, suc, ◌≤◌, Bool, true, false, not, ◌&&◌, eqb, List, [], map, length, replicate, ℤ, pos, negsuc, IfOk, Ok, Err, Option, Result, unwrap_or, refl, sym, ap, ◌∙◌, subst, ⊎_elim, arith}
 use lib.Signed.{le_z}
 use Rattle.std.specs.List.{AllByRecursion}
 use Rattle.std.proofs.ByRecursion.{All-weaker, All-map}
@@ -8,9 +8,11 @@ use Rattle.std.proofs.lemmas.Bool.{ltb-false, leb-true, eqb-true, eq-eqb, ne_eqb
 use Rattle.pages.specs.declared.layout.Layout.{Layout}
 use Rattle.refusals.specs.Refusals.{tested}
 use Rattle.refusals.specs.declared.fault.ChunkFault.{ChunkFault}
+use Rattle.refusals.proofs.Numbering.{numbered}
 use Rattle.ledger.specs.Pages.{plains}
 use Rattle.ledger.specs.Batches.{Batch, natural, levels_at, looked_at, miscounted, in_range, stray, stray_place, needed, values_of, unsized_place, level_tests, value_tests, intake_tests, Admitted}
-use Rattle.intake.specs.Admitting.{intake_of, admission, level_admission, value_admission}
+use Rattle.ledger.specs.Numbers.{intake_order}
+use Rattle.intake.specs.Admitting.{intake_of, admission, level_admission, value_admission, AdmitNumbered}
 use Rattle.intake.specs.declared.intake.Intake.{Intake}
 use Rattle.intake.proofs.Fronts.{all_from_leading}
 use Rattle.intake.proofs.Tested.{Passed, tested-append, tested_err, tested_ok, passed_from_ok, ok_from_ok}
@@ -74,6 +76,9 @@ made_admitted l b (Err y) e = tt
 
 pub intake_from_ok : (l : Layout) (b : Batch) (i : Intake) → Ok i ≡ admission l b → i ≡ intake_of l b
 intake_from_ok l b i e = let z : ◌≡◌ {A = Result Intake ChunkFault} (Ok (intake_of l b)) (Ok i) = ok_from_ok (intake_tests l b) (Ok (intake_of l b)) i (sym e) in cc
+
+pub admit_numbered : AdmitNumbered
+admit_numbered = record { each = λ l b. numbered (intake_tests l b) (intake_of l b) (admission l b) (intake_order l b) refl refl }
 
 -- its two parts, the levels first
 pub split : (l : Layout) (b : Batch) → admission l b ≡ tested (level_tests l b) (value_admission l b)

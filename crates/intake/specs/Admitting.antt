@@ -2,11 +2,12 @@
 use Rattle.std.specs.Prelude.{ℕ, ◌-◌, ◌^◌, min, cond, List, [], ◌∷◌, map, length, ℤ, Some, None, Ok, Option, Result}
 use Rattle.level_data.specs.Levels.{levels_of}
 use Rattle.pages.specs.declared.layout.Layout.{Layout}
-use Rattle.refusals.specs.Refusals.{tested, refuses}
+use Rattle.refusals.specs.Refusals.{tested, refuses, Numbered}
 use Rattle.refusals.specs.declared.fault.ChunkFault.{ChunkFault}
 use Rattle.refusals.specs.declared.fault.ChunkFault.TheVariants.{ValueLength}
 use Rattle.ledger.specs.Pages.{plains}
 use Rattle.ledger.specs.Batches.{Batch, needed, values_of, stray, stray_place, unsized, unsized_place, level_tests, value_tests, intake_tests}
+use Rattle.ledger.specs.Numbers.{intake_order}
 use Rattle.intake.specs.declared.batch.Batch.{Batch as Lent}
 use Rattle.intake.specs.declared.intake.Intake.{Intake}
 
@@ -21,6 +22,10 @@ intake_of l b = record { values = needed l b; plain = length (plains l.width (va
 -- the answer to a batch by itself: the first refusal that it meets, or what it needs
 abbrev pub admission : Layout → Batch → Result Intake ChunkFault
 admission l b = tested (intake_tests l b) (Ok (intake_of l b))
+
+-- any batch by itself is tested in the order of its refusals, and refused for one of them
+pub record AdmitNumbered : Type 0 where
+  pub each : (l : Layout) (b : Batch) → Numbered (intake_tests l b) (admission l b) (intake_order l b)
 
 -- the answer to its levels alone
 abbrev pub level_admission : Layout → Batch → Result Unit ChunkFault

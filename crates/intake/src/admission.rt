@@ -1,6 +1,6 @@
 ghost use Rattle.std.specs.Prelude.{◌≡◌, OnOk};
 ghost use Rattle.ledger.specs.Batches.{Admitted};
-ghost use Rattle.intake.specs.Admitting.{batch_of, admission, level_admission, value_admission};
+ghost use Rattle.intake.specs.Admitting.{batch_of, admission, level_admission, value_admission, AdmitNumbered};
 
 use crate::batch::Batch;
 use crate::intake::Intake;
@@ -10,8 +10,10 @@ use pages::{Layout, PageFault};
 use refusals::ChunkFault;
 
 // What a batch needs, or the first refusal that it meets by itself.
+#[tactic(auto, using(crate::proofs::Admits::admit_numbered))]
 pub fn admit<K: Kind, V: ValueOf<K>>(layout: Layout, batch: Batch<V>) -> Result<Intake, ChunkFault>
     ensures answer { result ≡ admission layout (batch_of V.ValueOf.bytes batch.entry) }
+    ensures numbers { AdmitNumbered }
     ensures admits { OnOk result (Admitted layout (batch_of V.ValueOf.bytes batch.entry)) }
 {
     admit_levels::<K, V>(layout, batch)?;

@@ -3,3 +3,4 @@ pub mod Enclosing
 pub mod Ordering
 pub mod ChunkLaws
 pub mod Runs
+pub mod Numbers

@@ -18,6 +18,10 @@ use Rattle.ledger.specs.Records.{Record, chunk_record}
 abbrev pub write_tests : (ℕ → Bool) → ℕ → ℕ → List Test
 write_tests takes pages size = refuses (nat_le 64 pages) Pages ∷ refuses (not (takes size)) (OfPage (Sink (Full size))) ∷ []
 
+-- what writing the open page is refused for: nothing where it is empty
+abbrev pub page_tests : Context → (ℕ → Bool) → Ledger → List Test
+page_tests x takes l = cond (levels l.page == 0) [] (write_tests takes (length l.pages) (length (bytes x l.page)))
+
 -- writing the open page: 0 where it is empty, else 1
 abbrev pub written : Context → (ℕ → Bool) → Ledger → Result ℕ ChunkFault
 written x takes l =
@@ -67,22 +71,34 @@ tight x p reps defs plain =
 abbrev pub read_counts : Context → Page → PageCounts
 read_counts x p = record { levels = levels p; values = length p.values; bytes = length (plain_bytes x p) }
 
+-- what reading page k into lists of these lengths tests
+abbrev pub read_tests : Context → Ledger → ℕ → ℕ → ℕ → ℕ → List Test
+read_tests x l k reps defs plain =
+    refuses (nat_le (length l.pages) k) (OfPage NoPage)
+    ∷ refuses (tight x (slice_index_or l.pages k blank) reps defs plain) (OfPage ReadLists)
+    ∷ []
+
 -- reading page k into lists of these lengths
 abbrev pub read_answer : Context → Ledger → ℕ → ℕ → ℕ → ℕ → Result PageCounts ChunkFault
-read_answer x l k reps defs plain =
-    tested (refuses (nat_le (length l.pages) k) (OfPage NoPage) ∷ refuses (tight x (slice_index_or l.pages k blank) reps defs plain) (OfPage ReadLists) ∷ [])
-    (Ok (read_counts x (slice_index_or l.pages k blank)))
+read_answer x l k reps defs plain = tested (read_tests x l k reps defs plain) (Ok (read_counts x (slice_index_or l.pages k blank)))
 
 -- a list after a read: what was read at its front, the rest as it was
 abbrev pub read_into : Result PageCounts ChunkFault → List ℕ → List ℕ → List ℕ
 read_into (Ok n) front old = front ++ drop (length front) old
 read_into (Err f) front old = old
 
+-- what asking for an entry tests
+abbrev pub entry_tests : Ledger → ℕ → List Test
+entry_tests l k = refuses (nat_le (length l.pages) k) (OfPage NoPage) ∷ []
+
 -- the entry of page k, which lies at that offset
 abbrev pub entry_answer : Context → Ledger → ℕ → ℕ → Result Entry ChunkFault
-entry_answer x l offset k =
-    tested (refuses (nat_le (length l.pages) k) (OfPage NoPage) ∷ []) (Ok (entry x offset (first_row l.pages k) (slice_index_or l.pages k blank)))
+entry_answer x l offset k = tested (entry_tests l k) (Ok (entry x offset (first_row l.pages k) (slice_index_or l.pages k blank)))
+
+-- what asking for the record tests
+abbrev pub record_tests : Ledger → List Test
+record_tests l = refuses (not (has_record l.phase)) NoRecord ∷ []
 
 -- the record, once the chunk is closed
 abbrev pub record_answer : Context → Ledger → Result Record ChunkFault
-record_answer x l = tested (refuses (not (has_record l.phase)) NoRecord ∷ []) (Ok (chunk_record x l.pages))
+record_answer x l = tested (record_tests l) (Ok (chunk_record x l.pages))

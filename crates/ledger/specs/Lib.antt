@@ -9,3 +9,4 @@ pub mod Answers
 pub mod Laws
 pub mod ChunkLaws
 pub mod Runs
+pub mod Numbers
