@@ -10,7 +10,7 @@ use Rattle.sinks.specs.Stores.{StoreMeaning}
 use Rattle.sinks.specs.declared.fault.SinkFault.{SinkFault}
 use Rattle.areas.specs.declared.place.Place.{Place}
 
--- an area that a sink may use has 4 to 65,535 bytes
+-- the sinks over an area use 4 to 65,535 bytes
 abbrev pub allowed : ℕ → Bool
 allowed size = nat_le 4 size && nat_le size 65535
 

@@ -3,7 +3,7 @@ ghost use Rattle.areas.specs.Areas.{allowed, Checked, laid};
 
 use sinks::SinkFault;
 
-// Whether a sink may use an area of this size.
+// Whether the sinks over an area use one of this size.
 pub fn allowed_area(size: usize) -> bool
     ensures { result ≡ allowed size }
 {

@@ -48,7 +48,7 @@ pub record Added (s : PackedSink) (p : List ℕ) (s' : PackedSink) : Type 0 wher
 abbrev pub packed_sink : SinkMeaning PackedSink
 packed_sink = record { takes = fits_in; leaves = Added }
 
--- an area with PAR1 at its front, or as it was where no sink may use it
+-- an area with PAR1 at its front, or as it was where its size is not used
 abbrev pub begun : List ℕ → List ℕ
 begun area = cond (allowed (length area)) (magic ++ drop 4 area) area
 

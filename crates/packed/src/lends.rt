@@ -9,7 +9,7 @@ use sinks::SinkFault;
 
 const MAGIC: &[u8; 4] = b"PAR1";
 
-// Writes PAR1 to the front of an area that a sink may use.
+// Writes PAR1 to the front of an area whose size is used.
 fn begin(area: &mut [u8])
     ensures { area.new ≡ begun area.old }
 {
@@ -19,7 +19,7 @@ fn begin(area: &mut [u8])
 }
 
 impl<'a> PackedSink<'a> {
-    // An empty sink. Over an area that no sink may use it writes nothing and takes nothing.
+    // An empty sink. Over an area of a size that it does not use it writes nothing and takes nothing.
     pub fn new(area: &'a mut [u8], table: &'a mut [Place]) -> PackedSink<'a>
         ensures made { Made area.old table.old result }
         ensures lent { (result.area.ghost_name ≡ area.entry.ghost_name) × (result.table.ghost_name ≡ table.entry.ghost_name) }
@@ -32,7 +32,7 @@ impl<'a> PackedSink<'a> {
         }
     }
 
-    // Whether the area has a size that a sink may use.
+    // Whether the area has a size that the sink uses.
     pub fn check(&self) -> Result<(), SinkFault>
         ensures { Checked (length self.now.area.now) result }
     {

@@ -7,7 +7,7 @@ use areas::check_area;
 use sinks::SinkFault;
 
 impl<'a> SlottedSink<'a> {
-    // An empty sink, which changes no byte. Over an area that no sink may use it takes nothing.
+    // An empty sink, which changes no byte. Over an area of a size that it does not use it takes nothing.
     pub fn new(area: &'a mut [u8]) -> SlottedSink<'a>
         ensures made { Made area.old result }
         ensures lent { result.area.ghost_name ≡ area.entry.ghost_name }
@@ -15,7 +15,7 @@ impl<'a> SlottedSink<'a> {
         SlottedSink { area, count: 0 }
     }
 
-    // Whether the area has a size that a sink may use.
+    // Whether the area has a size that the sink uses.
     pub fn check(&self) -> Result<(), SinkFault>
         ensures { Checked (length self.now.area.now) result }
     {
