@@ -7,3 +7,5 @@ pub mod Batching
 pub mod Places
 pub mod Lists
 pub mod Recording
+pub mod Contexts
+pub mod Whole

@@ -6,8 +6,6 @@ use Rattle.std.proofs.lemmas.List.Sums.{sum_by-cons}
 use Rattle.std.specs.List.{AllByRecursion}
 use Rattle.std.specs.Option.{ok_or}
 use Rattle.level_coder.specs.Coding.{Coding}
-use Rattle.body_coder.specs.Body.{Body}
-use Rattle.pages.specs.declared.layout.Layout.{Layout}
 use Rattle.pages.specs.Counts.{values_in, byte_count, Counted}
 use Rattle.pages.specs.Layout.{level_part, page_bytes}
 use Rattle.pages.specs.Pages.{ListFits}
@@ -19,11 +17,11 @@ use Rattle.refusals.specs.declared.fault.ChunkFault.{ChunkFault}
 use Rattle.refusals.specs.declared.fault.ChunkFault.TheVariants.{Page as OfPage}
 use Rattle.ledger.specs.Pages.{Page, levels}
 use Rattle.ledger.specs.Context.{Context, layout, bytes, plain_bytes, accepted}
-use Rattle.ledger.specs.Ledger.{Ledger}
 use Rattle.ledger.specs.Answers.{levels_read, tight, read_counts, read_into}
 use Rattle.open_page.specs.Pages.{Allowed, WellFormed}
 use Rattle.open_page.proofs.Accepted.{accepted_joinable}
 use Rattle.open_page.proofs.Fitting.{page_fits}
+use Rattle.chunk.specs.Histories.{History}
 use Rattle.chunk.specs.Reads.{page_of, ReadBy, ReadFrom}
 
 -- ---- one list
@@ -160,34 +158,34 @@ module _ (x : Context) (p : Page) (ok : accepted x ≡ true) (few : Allowed (lay
 
 -- ---- the call
 
-module _ (x : Context) (l : Ledger) (k : ℕ) (reps defs plain : List ℕ) where
+module _ (y : History) (k : ℕ) (reps defs plain : List ℕ) where
   abbrev rest_answer : Result PageCounts ChunkFault
-  rest_answer = cond (tight x (page_of l k) (length reps) (length defs) (length plain)) (Err (OfPage ReadLists)) (Ok (read_counts x (page_of l k)))
+  rest_answer = cond (tight y.context (page_of y.ledger k) (length reps) (length defs) (length plain)) (Err (OfPage ReadLists)) (Ok (read_counts y.context (page_of y.ledger k)))
 
-  pub read_past : (q : Result PageCounts ChunkFault) (e : ChunkFault) → q ≡ Err e → e ≡ OfPage NoPage → length l.pages ≤ k → ReadBy x l k reps defs plain q reps defs plain
+  pub read_past : (q : Result PageCounts ChunkFault) (e : ChunkFault) → q ≡ Err e → e ≡ OfPage NoPage → length y.ledger.pages ≤ k → ReadBy y k reps defs plain q reps defs plain
   read_past q e h f past =
-      subst (λ r. ReadBy x l k reps defs plain r reps defs plain) (sym (h ∙ ap (λ y. Err y) f)) (record {
-        answer = sym (cond-true (leb (length l.pages) k) (Err (OfPage NoPage)) rest_answer (le-leb (length l.pages) k past));
+      subst (λ r. ReadBy y k reps defs plain r reps defs plain) (sym (h ∙ ap (λ z. Err z) f)) (record {
+        answer = sym (cond-true (leb (length y.ledger.pages) k) (Err (OfPage NoPage)) rest_answer (le-leb (length y.ledger.pages) k past));
         repetition = refl;
         definition = refl;
         values = refl;
       })
 
-  pub read_there : (q : Result PageCounts ChunkFault) (reps' defs' plain' : List ℕ) → k < length l.pages → q ≡ rest_answer
-      → reps' ≡ read_into q (levels_read (layout x).max_rep_level (page_of l k).reps) reps
-      → defs' ≡ read_into q (levels_read (layout x).max_def_level (page_of l k).defs) defs
-      → plain' ≡ read_into q (plain_bytes x (page_of l k)) plain
-      → ReadBy x l k reps defs plain q reps' defs' plain'
+  pub read_there : (q : Result PageCounts ChunkFault) (reps' defs' plain' : List ℕ) → k < length y.ledger.pages → q ≡ rest_answer
+      → reps' ≡ read_into q (levels_read (layout y.context).max_rep_level (page_of y.ledger k).reps) reps
+      → defs' ≡ read_into q (levels_read (layout y.context).max_def_level (page_of y.ledger k).defs) defs
+      → plain' ≡ read_into q (plain_bytes y.context (page_of y.ledger k)) plain
+      → ReadBy y k reps defs plain q reps' defs' plain'
   read_there q reps' defs' plain' h a r d v = record {
-    answer = a ∙ sym (cond-false (leb (length l.pages) k) (Err (OfPage NoPage)) rest_answer (lt-leb (length l.pages) k h));
+    answer = a ∙ sym (cond-false (leb (length y.ledger.pages) k) (Err (OfPage NoPage)) rest_answer (lt-leb (length y.ledger.pages) k h));
     repetition = r;
     definition = d;
     values = v;
   }
 
 -- what was read of bytes that a sink's page is
-pub read_from : (c : Coding) (b : Body) (l : Layout) (n : ℕ) (bs : List ℕ) (page : Option (List ℕ)) (ro dn po ro' dn' po' : List ℕ) (r : Option PageCounts) (q : Result PageCounts ChunkFault) (f : ChunkFault)
-    → page ≡ Some bs → PageRead c b l n bs ro dn po ro' dn' po' (byte_count r) → Counted l n dn' r → q ≡ ok_or r f → ReadFrom c b l page ro dn po q ro' dn' po'
-read_from c b l n bs page ro dn po ro' dn' po' None q f e h k v = subst (λ y. ReadFrom c b l page ro dn po y ro' dn' po') (sym v) tt
-read_from c b l n bs page ro dn po ro' dn' po' (Some r) q f e h k v =
-    subst (λ y. ReadFrom c b l page ro dn po y ro' dn' po') (sym v) (bs, e, subst (λ i. PageRead c b l i bs ro dn po ro' dn' po' (Some r.bytes)) (sym k.0) h)
+pub read_from : (x : Context) (n : ℕ) (bs : List ℕ) (page : Option (List ℕ)) (ro dn po ro' dn' po' : List ℕ) (r : Option PageCounts) (q : Result PageCounts ChunkFault) (f : ChunkFault)
+    → page ≡ Some bs → PageRead x.levels x.body (layout x) n bs ro dn po ro' dn' po' (byte_count r) → Counted (layout x) n dn' r → q ≡ ok_or r f → ReadFrom x page ro dn po q ro' dn' po'
+read_from x n bs page ro dn po ro' dn' po' None q f e h k v = subst (λ y. ReadFrom x page ro dn po y ro' dn' po') (sym v) (h.0, h.1, h.2)
+read_from x n bs page ro dn po ro' dn' po' (Some r) q f e h k v =
+    subst (λ y. ReadFrom x page ro dn po y ro' dn' po') (sym v) (bs, e, subst (λ i. PageRead x.levels x.body (layout x) i bs ro dn po ro' dn' po' (Some r.bytes)) (sym k.0) h)

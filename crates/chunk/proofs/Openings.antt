@@ -1,5 +1,5 @@
 -- What a chunk is once it is opened.
-use Rattle.std.proofs.Common.{◌≡◌, Bool, true, false, cond, not, ◌&&◌, Ok, Err, Result, refl}
+use Rattle.std.proofs.Common.{◌≡◌, Bool, true, false, cond, not, ◌&&◌, Ok, Err, Result, is_ok, refl}
 use Rattle.kinds.specs.Meaning.{Meaning}
 use Rattle.level_coder.specs.Coding.{Coding}
 use Rattle.body_coder.specs.Body.{Body}
@@ -9,23 +9,21 @@ use Rattle.columns.specs.declared.column.Column.{Column}
 use Rattle.columns.specs.declared.settings.Settings.{Settings}
 use Rattle.refusals.specs.declared.fault.ChunkFault.{ChunkFault}
 use Rattle.ledger.specs.Context.{Context, accepted}
-use Rattle.ledger.specs.declared.phase.Phase.{Phase}
 use Rattle.ledger.specs.declared.phase.Phase.TheVariants.{Open, Refused}
 use Rattle.page_log.specs.Logs.{context}
 use Rattle.ledger.specs.Runs.{opening}
 use Rattle.chunk.specs.Stands.{is_accepted}
 
-abbrev pub phase_by : Result Unit ChunkFault → Phase
-phase_by (Ok u) = Open
-phase_by (Err e) = Refused
+abbrev in_order : Bool → Bool → ChunkFault → ChunkFault → Result (Unit {0}) ChunkFault
+in_order f g d e = cond (not f) (Err d) (cond (not g) (Err e) (Ok tt))
 
-phase_by_both : (f g : Bool) (d e : ChunkFault) → phase_by (cond (not f) (Err d) (cond (not g) (Err e) (Ok tt))) ≡ cond (f && g) Open Refused
-phase_by_both true true d e = refl
-phase_by_both true false d e = refl
-phase_by_both false g d e = refl
+ok_by_both : (f g : Bool) (d e : ChunkFault) → is_ok (in_order f g d e) ≡ (f && g)
+ok_by_both true true d e = refl
+ok_by_both true false d e = refl
+ok_by_both false g d e = refl
 
-pub begins_by : (m : Meaning) (c : Coding) (b : Body) (col : Column) (set : Settings) → phase_by (checked m c b col set) ≡ opening (context m c b col set)
-begins_by m c b col set = phase_by_both (column_fits m col) (settings_fit c b col set) ColumnFault SettingsFault
+pub is_ok-checked : (m : Meaning) (c : Coding) (b : Body) (col : Column) (set : Settings) → is_ok (checked m c b col set) ≡ accepted (context m c b col set)
+is_ok-checked m c b col set = ok_by_both (column_fits m col) (settings_fit c b col set) ColumnFault SettingsFault
 
 pub accepted_begins : (x : Context) → is_accepted (opening x) ≡ accepted x
 accepted_begins x = by_bool (accepted x)

@@ -1,2 +1,4 @@
+pub mod Histories
 pub mod Stands
+pub mod Calls
 pub mod Reads

@@ -1,13 +1,15 @@
 ghost use Rattle.std.specs.Prelude.{◌≡◌, ◌≤◌, true, length, Ok, OnOk};
 ghost use Rattle.refusals.specs.Refusals.{tested};
-ghost use Rattle.ledger.specs.Ledger.{Ledger, is_open};
+ghost use Rattle.ledger.specs.Ledger.{Ledger, batch as a_batch, cut, close, batched, ended, is_open};
 ghost use Rattle.ledger.specs.Context.{layout as layout_in};
 ghost use Rattle.ledger.specs.declared.phase.Phase.TheVariants.{Closed};
 ghost use Rattle.ledger.specs.Answers.{end_tests, batch_tests};
 ghost use Rattle.intake.specs.Admitting.{batch_of, intake_of};
-ghost use Rattle.chunk.specs.Stands.{Before, Stands, context_of, Batched, CutBy, ClosedBy};
+ghost use Rattle.chunk.specs.Histories.{History};
+ghost use Rattle.chunk.specs.Stands.{Stands, Stood};
+ghost use Rattle.chunk.specs.Calls.{Called, Kept, BatchRefused, EndRefused};
 
-use crate::chunk::ColumnChunk;
+use crate::state::State;
 use body_coder::BodyCoder;
 use intake::{Batch, Intake, admit};
 use kinds::{Kind, ValueOf};
@@ -15,16 +17,18 @@ use ledger::Phase;
 use level_coder::LevelCoder;
 use pages::PageFault;
 use refusals::{BatchDone, ChunkFault};
-use sinks::{PageSink, PageStore};
+use sinks::PageSink;
 
-impl<K: Kind, L: LevelCoder, B: BodyCoder, S: PageSink> ColumnChunk<K, L, B, S> {
-    // Adds a batch's levels, and the values that they need, to the open page, which is written if it is then due.
-    pub fn batch<V: ValueOf<K> + Copy>(
+impl<K: Kind, L: LevelCoder, B: BodyCoder, S: PageSink> State<K, L, B, S> {
+    pub(crate) fn batch<V: ValueOf<K> + Copy>(
         &mut self,
         batch: Batch<V>,
         scratch: &mut [u8],
     ) -> Result<BatchDone, ChunkFault>
-        ensures { (o : Before) (l : Ledger) → Stands (context_of K.Kind.meaning L.LevelCoder.coding B.BodyCoder.body self.old) S.PageStore.meaning S.PageSink.meaning o l self.old → Batched (context_of K.Kind.meaning L.LevelCoder.coding B.BodyCoder.body self.old) S.PageStore.meaning S.PageSink.meaning o l (batch_of V.ValueOf.bytes batch.entry) self.old scratch.old result self.new scratch.new }
+        ensures called { (h : History) → Stands h self.old
+            → Called h (a_batch (batch_of V.ValueOf.bytes batch.entry)) self.old scratch.old (batched result) self.new scratch.new }
+        ensures kept { Kept self.old scratch.old result self.new scratch.new }
+        ensures refused { BatchRefused self.old.phase (length scratch.old) result }
     {
         let intake = self.test_batch::<V>(batch, scratch.len())?;
         let layout = self.layout();
@@ -33,17 +37,19 @@ impl<K: Kind, L: LevelCoder, B: BodyCoder, S: PageSink> ColumnChunk<K, L, B, S> 
         Ok(self.settle(intake.values, scratch))
     }
 
-    // Writes the open page, unless it is empty, and answers how many pages that are.
-    pub fn cut(&mut self, scratch: &mut [u8]) -> Result<usize, ChunkFault>
-        ensures { (o : Before) (l : Ledger) → Stands (context_of K.Kind.meaning L.LevelCoder.coding B.BodyCoder.body self.old) S.PageStore.meaning S.PageSink.meaning o l self.old → CutBy (context_of K.Kind.meaning L.LevelCoder.coding B.BodyCoder.body self.old) S.PageStore.meaning S.PageSink.meaning o l self.old scratch.old result self.new scratch.new }
+    pub(crate) fn cut(&mut self, scratch: &mut [u8]) -> Result<usize, ChunkFault>
+        ensures called { (h : History) → Stands h self.old → Called h cut self.old scratch.old (ended result) self.new scratch.new }
+        ensures kept { ∥ Stood self.old ∥₁ → Kept self.old scratch.old result self.new scratch.new }
+        ensures refused { EndRefused self.old.phase (length scratch.old) result }
     {
         self.test_end(scratch.len())?;
         self.add_data_page(scratch)
     }
 
-    // The same, and then the chunk is closed.
-    pub fn close(&mut self, scratch: &mut [u8]) -> Result<usize, ChunkFault>
-        ensures { (o : Before) (l : Ledger) → Stands (context_of K.Kind.meaning L.LevelCoder.coding B.BodyCoder.body self.old) S.PageStore.meaning S.PageSink.meaning o l self.old → ClosedBy (context_of K.Kind.meaning L.LevelCoder.coding B.BodyCoder.body self.old) S.PageStore.meaning S.PageSink.meaning o l self.old scratch.old result self.new scratch.new }
+    pub(crate) fn close(&mut self, scratch: &mut [u8]) -> Result<usize, ChunkFault>
+        ensures called { (h : History) → Stands h self.old → Called h close self.old scratch.old (ended result) self.new scratch.new }
+        ensures kept { ∥ Stood self.old ∥₁ → Kept self.old scratch.old result self.new scratch.new }
+        ensures refused { EndRefused self.old.phase (length scratch.old) result }
     {
         let pages = self.cut(scratch)?;
         self.shut();
@@ -64,7 +70,9 @@ impl<K: Kind, L: LevelCoder, B: BodyCoder, S: PageSink> ColumnChunk<K, L, B, S> 
         room: usize,
     ) -> Result<Intake, ChunkFault>
         ensures passes { OnOk result ((is_open self.now.phase ≡ true) × (9227 ≤ room)) }
-        ensures tests { (o : Before) (l : Ledger) → Stands (context_of K.Kind.meaning L.LevelCoder.coding B.BodyCoder.body self.now) S.PageStore.meaning S.PageSink.meaning o l self.now → result ≡ tested (batch_tests (context_of K.Kind.meaning L.LevelCoder.coding B.BodyCoder.body self.now) room l (batch_of V.ValueOf.bytes batch.entry)) (Ok (intake_of (layout_in (context_of K.Kind.meaning L.LevelCoder.coding B.BodyCoder.body self.now)) (batch_of V.ValueOf.bytes batch.entry))) }
+        ensures refused { BatchRefused self.now.phase room result }
+        ensures tests { (h : History) → Stands h self.now
+            → result ≡ tested (batch_tests h.context room h.ledger (batch_of V.ValueOf.bytes batch.entry)) (Ok (intake_of (layout_in h.context) (batch_of V.ValueOf.bytes batch.entry))) }
     {
         if !self.phase.is_open() {
             return Err(ChunkFault::Closed);
@@ -86,6 +94,7 @@ impl<K: Kind, L: LevelCoder, B: BodyCoder, S: PageSink> ColumnChunk<K, L, B, S> 
     fn test_end(&self, room: usize) -> Result<(), ChunkFault>
         ensures passes { OnOk result ((is_open self.now.phase ≡ true) × (9227 ≤ room)) }
         ensures tests { (l : Ledger) → self.now.phase ≡ l.phase → result ≡ tested (end_tests l room) (Ok tt) }
+        ensures refused { EndRefused self.now.phase room result }
     {
         if !self.phase.is_open() {
             return Err(ChunkFault::Closed);

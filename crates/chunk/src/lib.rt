@@ -5,7 +5,9 @@
 
 mod calls;
 mod chunk;
+mod opening;
 mod reads;
+mod state;
 mod writes;
 
 pub use chunk::ColumnChunk;

@@ -38,7 +38,7 @@ fn over_both<T: Scene, A: Abort, L: LevelCoder, B: BodyCoder>(rt: &A, size: usiz
 
 // A chunk and the scratch that it is lent. Nothing is said of these calls again, so that the proofs of tests stay small.
 #[derive(Drop)]
-pub(crate) struct Stage<K, L, B, S> {
+pub(crate) struct Stage<K: Kind, L: LevelCoder, B: BodyCoder, S: PageSink> {
     chunk: ColumnChunk<K, L, B, S>,
     scratch: [u8; 9227],
 }

@@ -1,4 +1,4 @@
-ghost use Rattle.std.specs.Prelude.{◌≡◌, ℕ, ◌<◌, ◌≤◌, List, [], ◌++◌, length, count_by, Some, None, nat_eq, slice_index, slice_index_or};
+ghost use Rattle.std.specs.Prelude.{◌≡◌, ℕ, ◌<◌, ◌≤◌, List, [], ◌++◌, map, length, count_by, Some, None, nat_eq, slice_index, slice_index_or};
 ghost use Rattle.std.specs.Option.{option_map};
 ghost use Rattle.std.specs.List.{slice_get};
 ghost use Rattle.figures.specs.Figures.{smallest, largest};
@@ -115,6 +115,14 @@ impl PageLog {
         ensures past { (x : Context) (os : List ℕ) (ps : List Page) → Logged x os ps self.now → length ps ≤ k → result ≡ None }
     {
         self.entries.get(k)
+    }
+
+    // The entries of all pages, in order.
+    pub fn entries(&self) -> EntryTable
+        ensures { (x : Context) (os : List ℕ) (ps : List Page) → Logged x os ps self.now → map said_entry result ≡ entry_list x 0 os ps }
+    {
+        let PageLog { entries, .. } = *self;
+        entries
     }
 
     // The record of a chunk that wrote these pages.

@@ -1,38 +1,9 @@
-use Rattle.std.proofs.Common.{◌≡◌, ◌≤◌, true, length, Ok, Err, sym, ap, ◌∙◌, subst}
-use Rattle.std.proofs.lemmas.Result.{err_from_is_err_and}
-use Rattle.refusals.specs.Refusals.{tested}
-use Rattle.ledger.specs.Context.{Context, layout, accepted}
-use Rattle.ledger.specs.Batches.{Batch, taken, needed, Admitted}
-use Rattle.ledger.specs.Pages.{join, plains}
-use Rattle.ledger.specs.Answers.{batch_tests}
-use Rattle.intake.specs.Admitting.{batch_of, intake_of}
-use Rattle.open_page.specs.Opened.{Opened}
-use Rattle.chunk.specs.Stands.{context_of}
-use Rattle.chunk.proofs.Ending.{open_accepted}
-use Rattle.open_page.proofs.Accepted.{not_due_light}
-use Rattle.chunk.proofs.Batching.{Passes, passes, batch_refused, more_stands, batch_stood}
+use Rattle.std.proofs.Math.Logic.{∥∥₁_map}
+use Rattle.chunk.proofs.Whole.{kept_whole}
 use Rattle.chunk.proofs.chunk.ColumnChunk.batch.Goals as goal
 
-pub returns-in_err-intake : goal.returns-in_err-intake
-returns-in_err-intake g c = λ o l s.
-    let x : Context = context_of g.K.Kind.meaning g.L.LevelCoder.coding g.B.BodyCoder.body c.args.self.now in
-    let b : Batch = batch_of g.V.ValueOf.bytes c.args.batch in
-    let p = err_from_is_err_and c.from_residual.result c.from_residual.ensures.1 in
-    batch_refused x g.S.PageStore.meaning g.S.PageSink.meaning o l b c.args.self.now s c.args.scratch.now c.from_residual.result c.in_err-intake.field-0.0 (p.1 ∙ ap Err p.2)
-    (sym (c.test_batch.ensures.tests o l s) ∙ c.in_err-intake.was)
+pub invariant_of-self : goal.invariant_of-self
+invariant_of-self g c = record { stands = ∥∥₁_map c.args.self.now.stands (λ q. (_, (c.batch.ensures.called q.0 q.1).stands)) }
 
-pub returns : goal.returns
-returns g c = λ o l s.
-    let x : Context = context_of g.K.Kind.meaning g.L.LevelCoder.coding g.B.BodyCoder.body c.args.self.now in
-    let b : Batch = batch_of g.V.ValueOf.bytes c.args.batch in
-    let t : tested (batch_tests x (length c.args.scratch.now) l b) (Ok (intake_of (layout x) b)) ≡ Ok c.in_ok-intake.intake = sym (c.test_batch.ensures.tests o l s) ∙ c.in_ok-intake.was in
-    let k : Passes x l b c.in_ok-intake.intake = passes x (length c.args.scratch.now) l b c.in_ok-intake.intake t in
-    let a : accepted x ≡ true = open_accepted l.phase (accepted x) k.begun s.allowed in
-    let e = c.layout-layout.ensures in
-    let w : Opened x.kind (layout x) (join l.page (taken (layout x) b)) c.write_mini_batch.new.self =
-    subst (λ y. Opened x.kind y (join l.page (taken y b)) c.write_mini_batch.new.self) e
-    (c.write_mini_batch.ensures l.page (subst (λ y. Opened x.kind y l.page c.args.self.now.page) (sym e) s.page)
-    (subst (λ y. Admitted y b) (sym e) k.fits) (k.values ∙ ap (λ y. needed y b) (sym e)) k.room
-    (subst (λ y. length (plains y.width l.page.values) ≤ 4095) (sym e) (not_due_light x a l.page s.page.well k.waits))) in
-    batch_stood x g.S.PageStore.meaning g.S.PageSink.meaning o l b c.args.self.now s c.args.scratch.now c.in_ok-intake.intake c.write_mini_batch.new.self c.settle.result c.settle.new.self c.settle.new.scratch t
-    (c.settle.ensures o (Rattle.ledger.specs.Ledger.adds l (taken (layout x) b)) (more_stands x g.S.PageStore.meaning g.S.PageSink.meaning o l b c.args.self.now s (taken (layout x) b) c.write_mini_batch.new.self k.begun w))
+pub returns-clause-kept : goal.returns-clause-kept
+returns-clause-kept g c = kept_whole _ _ c.batch.result _ _ c.batch.ensures.kept
