@@ -1,11 +1,10 @@
 ghost use Rattle.std.specs.Prelude.{◌≡◌, true};
-ghost use Rattle.std.specs.Option.{option_map};
 ghost use Rattle.metrics.specs.Metrics.{kept};
 ghost use Rattle.ledger.specs.Laws.{Exactly};
 ghost use Rattle.page_log.specs.Records.{said_record};
-ghost use Rattle.ledger.specs.Ledger.{Ledger};
-ghost use Rattle.chunk.specs.Stands.{Before, Stands, context_of};
-ghost use Rattle.runs.specs.Runs.{Agreed};
+ghost use Rattle.chunk.specs.Histories.{History};
+ghost use Rattle.chunk.specs.Stands.{Stands};
+ghost use Rattle.runs.specs.Both.{Agreed};
 
 use body_coder::BodyCoder;
 use buffers::Buffer;
@@ -28,11 +27,11 @@ pub fn agree<
     C: BodyCoder,
     T: PageSink,
 >(one: &ColumnChunk<K, L, B, S>, other: &ColumnChunk<K, M, C, T>) -> Result<bool, ChunkFault>
-    ensures { (o p : Before) (l q : Ledger) → Stands (context_of K.Kind.meaning L.LevelCoder.coding B.BodyCoder.body one.now) S.PageStore.meaning S.PageSink.meaning o l one.now → Stands (context_of K.Kind.meaning M.LevelCoder.coding C.BodyCoder.body other.now) T.PageStore.meaning T.PageSink.meaning p q other.now → Agreed (context_of K.Kind.meaning L.LevelCoder.coding B.BodyCoder.body one.now) l (context_of K.Kind.meaning M.LevelCoder.coding C.BodyCoder.body other.now) q result }
+    ensures { (h k : History) → Stands h one.now.state → Stands k other.now.state → Agreed h k result }
 {
     let one = one.record()?;
     let other = other.record()?;
-    Ok(is_same_record(&one, &other))
+    Ok(has_same_figures(&one, &other))
 }
 
 // Whether two figures are the same value, byte for byte.
@@ -57,8 +56,8 @@ fn is_same_histogram(one: &Option<LevelHistogram>, other: &Option<LevelHistogram
     }
 }
 
-// Whether two records have the same figures. The rest of them, the bytes and the orders, tells how the pages were cut.
-fn is_same_record(one: &Record, other: &Record) -> bool
+// Whether two records have the same figures, byte for byte. The rest of them, the bytes and the orders, tells how the pages were cut.
+pub fn has_same_figures(one: &Record, other: &Record) -> bool
     ensures { Exactly (result ≡ true) ((said_record one.now).figures ≡ (said_record other.now).figures) }
 {
     one.rows == other.rows

@@ -1,7 +1,7 @@
-ghost use Rattle.std.specs.Prelude.{◌≡◌};
-ghost use Rattle.ledger.specs.Ledger.{Ledger};
-ghost use Rattle.chunk.specs.Stands.{Before, Stands, context_of};
-ghost use Rattle.runs.specs.Runs.{call_of, answer_of, Played};
+ghost use Rattle.chunk.specs.Histories.{History};
+ghost use Rattle.chunk.specs.Stands.{Stands};
+ghost use Rattle.chunk.specs.Calls.{Called};
+ghost use Rattle.runs.specs.Runs.{call_of, answer_of, KeptAs};
 
 use body_coder::BodyCoder;
 use chunk::ColumnChunk;
@@ -26,13 +26,22 @@ pub enum Answer {
     Ended(Result<usize, ChunkFault>),
 }
 
+// A call, and beside it its answer, once it was played.
+#[derive_where(Clone, Copy)]
+pub struct Played<'a, V> {
+    pub call: Call<'a, V>,
+    pub answer: Option<Answer>,
+}
+
 // Plays a call on a chunk.
 pub fn play<K: Kind, L: LevelCoder, B: BodyCoder, S: PageSink, V: ValueOf<K> + Copy>(
     chunk: &mut ColumnChunk<K, L, B, S>,
     call: Call<V>,
     scratch: &mut [u8],
 ) -> Answer
-    ensures { (o : Before) (l : Ledger) → Stands (context_of K.Kind.meaning L.LevelCoder.coding B.BodyCoder.body chunk.old) S.PageStore.meaning S.PageSink.meaning o l chunk.old → Played (context_of K.Kind.meaning L.LevelCoder.coding B.BodyCoder.body chunk.old) S.PageStore.meaning S.PageSink.meaning o l (call_of V.ValueOf.bytes call.entry) chunk.old scratch.old (answer_of result) chunk.new scratch.new }
+    ensures called { (h : History) → Stands h chunk.old.state
+        → Called h (call_of V.ValueOf.bytes call.entry) chunk.old.state scratch.old (answer_of result) chunk.new.state scratch.new }
+    ensures kept { KeptAs chunk.old scratch.old result chunk.new scratch.new }
 {
     match call {
         Call::Batch(batch) => Answer::Batched(chunk.batch(batch, scratch)),

@@ -4,9 +4,11 @@
 #![tactic(auto)]
 
 mod agreement;
+mod both;
 mod call;
 mod replaying;
 
-pub use agreement::agree;
-pub use call::{Answer, Call, play};
-pub use replaying::{play_all, replay};
+pub use agreement::{agree, has_same_figures};
+pub use both::replay_both;
+pub use call::{Answer, Call, Played, play};
+pub use replaying::{Run, play_all, replay};

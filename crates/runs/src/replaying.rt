@@ -1,46 +1,67 @@
-ghost use Rattle.std.specs.Prelude.{◌≡◌, length, map, take, drop, min};
-ghost use Rattle.ledger.specs.Ledger.{Ledger};
+ghost use Rattle.std.specs.Prelude.{◌≡◌, map};
 ghost use Rattle.page_log.specs.Logs.{context};
-ghost use Rattle.chunk.specs.Stands.{Before, Stands, context_of, held};
-ghost use Rattle.runs.specs.Runs.{call_of, answer_of, PlayedAll, Ran};
+ghost use Rattle.chunk.specs.Histories.{History};
+ghost use Rattle.chunk.specs.Stands.{Stands};
+ghost use Rattle.runs.specs.Runs.{lent_calls, calls_in, answers_in, PlayedAll, Ran};
 
-use crate::call::{Answer, Call, play};
+use crate::call::{Played, play};
 use body_coder::BodyCoder;
 use chunk::ColumnChunk;
 use columns::{Column, Settings};
+use entries::EntryTable;
 use kinds::{Kind, ValueOf};
 use level_coder::LevelCoder;
+use page_log::Record;
+use refusals::ChunkFault;
 use sinks::PageSink;
 
-// Plays calls on a chunk, as many as there is room for answers.
+// A chunk on which calls were played: its record, or why there is none, and the entries of all its pages, in order.
+#[derive(Drop)]
+pub struct Run<K: Kind, L: LevelCoder, B: BodyCoder, S: PageSink> {
+    pub chunk: ColumnChunk<K, L, B, S>,
+    pub record: Result<Record, ChunkFault>,
+    pub entries: EntryTable,
+}
+
+// Plays every call of a list on a chunk, and puts its answer beside it.
 pub fn play_all<K: Kind, L: LevelCoder, B: BodyCoder, S: PageSink, V: ValueOf<K> + Copy>(
     chunk: &mut ColumnChunk<K, L, B, S>,
-    calls: &[Call<V>],
-    answers: &mut [Answer],
+    calls: &mut [Played<V>],
     scratch: &mut [u8],
 )
-    ensures played { (o : Before) (l : Ledger) → Stands (context_of K.Kind.meaning L.LevelCoder.coding B.BodyCoder.body chunk.old) S.PageStore.meaning S.PageSink.meaning o l chunk.old → PlayedAll (context_of K.Kind.meaning L.LevelCoder.coding B.BodyCoder.body chunk.old) S.PageStore.meaning S.PageSink.meaning o (length scratch.old) l (take (min (length calls.now) (length answers.old)) (map (call_of V.ValueOf.bytes) calls.now)) (take (min (length calls.now) (length answers.old)) (map answer_of answers.new)) chunk.new }
-    ensures rest { drop (min (length calls.now) (length answers.old)) answers.new ≡ drop (min (length calls.now) (length answers.old)) answers.old }
+    ensures played { (h : History) → Stands h chunk.old.state
+        → PlayedAll h (calls_in V.ValueOf.bytes calls.old) chunk.old.state scratch.old (answers_in calls.new) chunk.new.state scratch.new }
+    ensures calls { lent_calls calls.new ≡ lent_calls calls.old }
 {
-    let count = calls.len().min(answers.len());
-    for at in 0..count {
-        answers[at] = play(chunk, calls[at], scratch);
+    for at in 0..calls.len() {
+        let call = calls[at].call;
+        let answer = play(chunk, call, scratch);
+        calls[at] = Played {
+            call,
+            answer: Some(answer),
+        };
     }
 }
 
-// Opens a chunk and plays calls on it, as many as there is room for answers.
+// Opens a chunk and plays every call of a list on it.
 pub fn replay<K: Kind, L: LevelCoder, B: BodyCoder, S: PageSink, V: ValueOf<K> + Copy>(
     column: Column,
     settings: Settings,
     sink: S,
-    calls: &[Call<V>],
-    answers: &mut [Answer],
+    calls: &mut [Played<V>],
     scratch: &mut [u8],
-) -> ColumnChunk<K, L, B, S>
-    ensures run { Ran (context K.Kind.meaning L.LevelCoder.coding B.BodyCoder.body column settings) S.PageStore.meaning S.PageSink.meaning (held S.PageStore.meaning sink) (length scratch.old) (take (min (length calls.now) (length answers.old)) (map (call_of V.ValueOf.bytes) calls.now)) (take (min (length calls.now) (length answers.old)) (map answer_of answers.new)) result }
-    ensures rest { drop (min (length calls.now) (length answers.old)) answers.new ≡ drop (min (length calls.now) (length answers.old)) answers.old }
+) -> Run<K, L, B, S>
+    ensures ran { Ran (context K.Kind.meaning L.LevelCoder.coding B.BodyCoder.body column settings) sink
+        (calls_in V.ValueOf.bytes calls.old) scratch.old (answers_in calls.new) result scratch.new }
+    ensures calls { lent_calls calls.new ≡ lent_calls calls.old }
 {
     let mut chunk = ColumnChunk::open(column, settings, sink);
-    play_all(&mut chunk, calls, answers, scratch);
-    chunk
+    play_all(&mut chunk, calls, scratch);
+    let record = chunk.record();
+    let entries = chunk.entries();
+    Run {
+        chunk,
+        record,
+        entries,
+    }
 }
