@@ -1,7 +1,7 @@
 use anyhow::{Context, anyhow};
 use body_coder::BodyCoder;
 use chunk::ColumnChunk;
-use columns::{Column, Mode, Settings, check, layout};
+use columns::{Mode, Settings, check, layout};
 use entries::Entry;
 use floats::{Bits, Double, DoubleBits};
 use intake::Batch;
@@ -9,18 +9,11 @@ use level_coder::LevelCoder;
 use level_data::LevelDataRef;
 use page_log::Record;
 use pages::page_size;
-use runs::agree;
+use rebuild::COLUMN;
 use sinks::{Fault, PageSink, PageStore};
 use std::alloc::Global;
 use std::fmt::Display;
 use words::Word;
-
-// A DOUBLE for each reading that is there, and a null for a missing one.
-const COLUMN: Column = Column {
-    width: 8,
-    max_def_level: 1,
-    max_rep_level: 0,
-};
 
 // How a chunk is written with pages of so many rows.
 pub fn pages_of(version: u8, rows: usize) -> Settings {
@@ -48,7 +41,7 @@ pub struct Closed {
 
 // A column chunk of hold temperatures over a sink that was empty.
 #[derive(Drop)]
-pub struct HoldChunk<L, B, S> {
+pub struct HoldChunk<L: LevelCoder, B: BodyCoder, S: PageSink> {
     chunk: ColumnChunk<Double, L, B, S>,
     settings: Settings,
     // whether the open page has rows
@@ -143,14 +136,6 @@ impl<L: LevelCoder, B: BodyCoder, S: PageSink + Drop> HoldChunk<L, B, S> {
             at = end;
         }
         Ok(holds)
-    }
-
-    // Whether the record of another chunk has the same figures, whatever the pages, the coders and the sink.
-    pub fn agrees<M: LevelCoder, C: BodyCoder, T: PageSink>(
-        &self,
-        other: &HoldChunk<M, C, T>,
-    ) -> anyhow::Result<bool> {
-        agree(&self.chunk, &other.chunk).map_err(refused)
     }
 
     pub fn into_sink(self) -> S {

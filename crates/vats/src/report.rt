@@ -1,9 +1,10 @@
 use crate::hold_chunk::Closed;
-use crate::vat::{Recorded, Vat, rebuild};
+use crate::vat::{Rebuilt, Recorded, Vat};
 use buffers::Buffer;
 use entries::{Entry, Marks};
 use floats::{Bits, DoubleBits};
 use ledger::BoundaryOrder;
+use page_log::Record;
 use release::{VatRecord, admits_dip, is_dip, judge};
 use std::alloc::{AllocError, Global};
 use std::fmt;
@@ -49,13 +50,13 @@ pub fn chunk(
     first: u64,
     chunk: &Recorded,
     closed: &Closed,
+    rebuilt: &Rebuilt,
 ) -> anyhow::Result<()> {
     let last = first.saturating_add(closed.record.rows).saturating_sub(1);
     let name = vat.name;
     writeln!(text, "\n{name}, column chunk of rows {first} to {last}\n")?;
     index(text, vat.limit, closed.index.as_slice())?;
     dips(heap, text, vat.limit, first, chunk, closed.index.as_slice())?;
-    let rebuilt = rebuild(heap, chunk)?;
     writeln!(
         text,
         "\n{:<8} {:>6} {:>7} {:>6} {:>5} {:>9} {:>9} {:>6} {:>6}  {:<10}  {}",
@@ -71,9 +72,10 @@ pub fn chunk(
         "order",
         "agrees"
     )?;
-    record_line(text, "written", closed, "-")?;
+    let pages = closed.index.len();
+    record_line(text, "written", &closed.record, pages, "-")?;
     let agrees = if rebuilt.agrees { "yes" } else { "no" };
-    record_line(text, "rebuilt", &rebuilt.closed, agrees)?;
+    record_line(text, "rebuilt", &rebuilt.record, rebuilt.pages, agrees)?;
     Ok(())
 }
 
@@ -170,11 +172,10 @@ fn dip_lines(
 fn record_line(
     text: &mut String,
     what: &str,
-    closed: &Closed,
+    record: &Record,
+    pages: usize,
     agrees: &str,
 ) -> Result<(), AllocError> {
-    let pages = closed.index.len();
-    let record = &closed.record;
     let rows = record.rows;
     let levels = record.levels;
     let nulls = record.nulls;

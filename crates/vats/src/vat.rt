@@ -1,4 +1,4 @@
-use crate::hold_chunk::{Closed, HoldChunk, pages_of, refused};
+use crate::hold_chunk::{HoldChunk, pages_of, refused};
 use crate::report;
 use anyhow::Context;
 use areas::Place;
@@ -6,9 +6,14 @@ use bodies::{Plain, Split};
 use floats::DoubleBits;
 use levels::Packed;
 use packed::PackedSink;
+use page_log::Record;
+use rebuild::{Rebuilding, Unbuilt, rebuild};
 use release::VatRecord;
+use runs::has_same_figures;
+use sinks::PageStore;
 use slotted::SlottedSink;
 use std::alloc::Global;
+use std::ops::Range;
 
 // Readings of a batch, and of a page, which a batch never goes beyond.
 const BATCH: usize = 8;
@@ -22,8 +27,6 @@ const REBUILT_PAGE: usize = 64;
 const AREA: usize = 16384;
 
 pub type Recorded<'a> = HoldChunk<Packed, Plain, PackedSink<'a>>;
-
-type Rebuilt<'a> = HoldChunk<Packed, Split, SlottedSink<'a>>;
 
 // The readings of a vat, which are written to one chunk after the other.
 #[derive(Clone, Copy)]
@@ -40,11 +43,13 @@ impl<'a> Vat<'a> {
         let mut table = vec![in heap; Place { offset: 0, len: 0 }; 64]?;
         let mut vat = VatRecord::new();
         let mut chunk = open(area.as_mut_slice(), table.as_mut_slice())?;
+        let mut begun = 0;
         let mut row = 0;
         for batch in self.holds.chunks(BATCH) {
             if !chunk.has_room() {
-                self.finish(heap, &mut chunk, &mut vat, chunks)
+                self.finish(heap, &mut chunk, begun..row, &mut vat, chunks)
                     .context(format_args!("vat {}, row {row}", self.name))?;
+                begun = row;
                 let (area, table) = chunk.into_sink().into_parts();
                 chunk = open(area, table)?;
             }
@@ -53,24 +58,27 @@ impl<'a> Vat<'a> {
                 .context(format_args!("vat {}, row {row}", self.name))?;
             row = batch.len().saturating_add(row);
         }
-        self.finish(heap, &mut chunk, &mut vat, chunks)
+        self.finish(heap, &mut chunk, begun..row, &mut vat, chunks)
             .context(format_args!("vat {}, row {row}", self.name))?;
         report::vat_line(vats, self.name, &vat, self.limit)?;
         Ok(())
     }
 
-    // Closes a chunk, takes in its record, and reports it.
+    // Closes a chunk, which has the readings of these rows, takes in its record, and reports it.
     fn finish(
         self,
         heap: Global,
         chunk: &mut Recorded,
+        rows: Range<usize>,
         vat: &mut VatRecord,
         text: &mut String,
     ) -> anyhow::Result<()> {
         let first = vat.rows;
         let closed = chunk.close(heap)?;
         vat.add(&closed.record);
-        report::chunk(heap, text, self, first, chunk, &closed)?;
+        let holds = self.holds.get(rows).unwrap_or(&[]);
+        let rebuilt = rebuild_from_pages(heap, holds, chunk, &closed.record)?;
+        report::chunk(heap, text, self, first, chunk, &closed, &rebuilt)?;
         Ok(())
     }
 }
@@ -81,25 +89,58 @@ fn open<'a>(area: &'a mut [u8], table: &'a mut [Place]) -> anyhow::Result<Record
     HoldChunk::open(pages_of(1, PAGE), sink)
 }
 
-// What a chunk rebuilt from another's pages says.
+// What a chunk rebuilt from another's pages says: its record, how many pages it has, and whether its record agrees with the other's.
 #[derive(Drop)]
-pub struct Rebuilding {
-    pub closed: Closed,
+pub struct Rebuilt {
+    pub record: Record,
+    pub pages: usize,
     pub agrees: bool,
 }
 
-// Reads the pages of a chunk back and writes them to another, with larger pages, split bodies and another sink.
-pub fn rebuild(heap: Global, chunk: &Recorded) -> anyhow::Result<Rebuilding> {
-    let mut area = vec![in heap; 0u8; AREA]?;
-    let sink = SlottedSink::new(area.as_mut_slice());
-    sink.check().map_err(refused)?;
-    let mut rebuilt: Rebuilt = HoldChunk::open(pages_of(2, REBUILT_PAGE), sink)?;
+// Reads the pages of a chunk back and writes them to another, with larger pages, split bodies and another sink. One call writes
+// what was read, and beside it the readings once more, and compares the records of both; that of the chunk itself is compared too.
+pub fn rebuild_from_pages(
+    heap: Global,
+    holds: &[Option<DoubleBits>],
+    chunk: &Recorded,
+    record: &Record,
+) -> anyhow::Result<Rebuilt> {
+    let mut read = Vec::new(heap);
     for k in 0..chunk.pages() {
-        let holds = chunk.read(heap, k)?;
-        rebuilt.add(heap, holds.as_slice())?;
+        read.extend_from_slice(chunk.read(heap, k)?.as_slice())?;
     }
-    Ok(Rebuilding {
-        closed: rebuilt.close(heap)?,
-        agrees: chunk.agrees(&rebuilt)?,
+    let mut area = vec![in heap; 0u8; AREA]?;
+    let mut table = vec![in heap; Place { offset: 0, len: 0 }; 64]?;
+    let mut other_area = vec![in heap; 0u8; AREA]?;
+    let sink = PackedSink::new(area.as_mut_slice(), table.as_mut_slice());
+    sink.check().map_err(refused)?;
+    let other_sink = SlottedSink::new(other_area.as_mut_slice());
+    other_sink.check().map_err(refused)?;
+    let Rebuilding {
+        written,
+        rebuilt,
+        agrees,
+    } = rebuild::<Packed, Plain, PackedSink, Packed, Split, SlottedSink>(
+        heap,
+        holds,
+        pages_of(1, PAGE),
+        sink,
+        read.as_slice(),
+        pages_of(2, REBUILT_PAGE),
+        other_sink,
+    )
+    .map_err(unbuilt)?;
+    let again = written.record.map_err(refused)?;
+    Ok(Rebuilt {
+        record: rebuilt.record.map_err(refused)?,
+        pages: rebuilt.entries.len(),
+        agrees: agrees && has_same_figures(record, &again),
     })
+}
+
+fn unbuilt(why: Unbuilt) -> anyhow::Error {
+    match why {
+        Unbuilt::Memory(e) => anyhow::Error::from(e),
+        Unbuilt::Refused(fault) => refused(fault),
+    }
 }

@@ -1,0 +1,3 @@
+pub mod Comparing
+pub mod Refusals
+pub mod Writing
