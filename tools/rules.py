@@ -11,6 +11,8 @@ import sys
 
 CRATES = ["refusals", "columns", "ledger", "intake", "metrics"]
 DEFINES = r"(?m)^(?:abbrev )?pub (?:record |data )?%s(?= |$)"
+# one that stands in a block with parameters
+WITHIN = r"(?m)^  (?:abbrev pub|pub record) %s(?= |$)"
 errors = []
 
 
@@ -38,7 +40,7 @@ def defined(crate, file, name):
         folder = os.path.join("crates", crate, "src")
         return any(re.search(rf"\bpub (struct|enum|trait|fn) {name}\b", read(folder, f)) for f in os.listdir(folder))
     path = os.path.join("crates", crate, "specs", file + ".antt")
-    return os.path.exists(path) and re.search(DEFINES % re.escape(name), read(path))
+    return os.path.exists(path) and any(re.search(form % re.escape(name), read(path)) for form in (DEFINES, WITHIN))
 
 
 def body(crate, file, name):
