@@ -1,3 +1,4 @@
 pub mod Comparing
+pub mod Laying
 pub mod Refusals
 pub mod Writing

@@ -1,5 +1,5 @@
 -- Readings as a column takes them: a null where one is missing, and else a DOUBLE.
-use Rattle.std.specs.Prelude.{ℕ, List, [], ◌∷◌, ◌++◌, map, length, replicate, pos, Some, None, Option}
+use Rattle.std.specs.Prelude.{ℕ, ◌+◌, Bool, List, [], ◌∷◌, ◌++◌, map, length, replicate, pos, Some, None, Option, ◌==◌}
 use Rattle.std.specs.List.{flat_map}
 use Rattle.std.specs.Option.{option_or}
 use Rattle.std.specs.Result.{result_err}
@@ -42,6 +42,10 @@ reading_call h = batch (reading_batch h)
 -- the calls that write readings to a chunk, one by one, and then the close
 abbrev pub readings_calls : List (Option (Bits ℕ)) → List Call
 readings_calls hs = map reading_call hs ++ (close ∷ [])
+
+-- a list of calls has one place for each reading and one for the close, and no more
+abbrev pub has_places : {A : Type 0} → List A → List (Option (Bits ℕ)) → Bool
+has_places cs hs = length cs == length hs + 1
 
 -- what an answer refuses, and the first refusal of answers in a row
 abbrev pub refusal_in : Answer → Option ChunkFault

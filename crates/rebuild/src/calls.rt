@@ -1,5 +1,6 @@
-ghost use Rattle.std.specs.Prelude.{◌≡◌, IfOk, None};
-ghost use Rattle.rebuild.specs.Readings.{hold_bytes, reading_call, readings_calls, first_refusal as first_of};
+ghost use Rattle.std.specs.Prelude.{◌≡◌, ◌+◌, ◌&&◌, length, get_or, None};
+ghost use Rattle.ledger.specs.Ledger.{close};
+ghost use Rattle.rebuild.specs.Readings.{hold_bytes, reading_call, readings_calls, has_places as places_for, first_refusal as first_of};
 ghost use Rattle.runs.specs.Runs.{call_of, calls_in, answer_in, answers_in};
 
 use floats::DoubleBits;
@@ -7,22 +8,48 @@ use intake::Batch;
 use level_data::LevelDataRef;
 use refusals::ChunkFault;
 use runs::{Answer, Call, Played};
-use std::alloc::{AllocError, Global};
 use std::slice;
 
-// The calls that write readings to a chunk: a batch of one level for each, and then the close.
-pub(crate) fn calls_for(
-    heap: Global,
+// Whether each of two lists has just the places that the calls need which write its readings.
+pub(crate) fn have_places(
     holds: &[Option<DoubleBits>],
-) -> Result<Vec<Played<'_, DoubleBits>>, AllocError>
-    ensures { IfOk result (λ v. calls_in hold_bytes v.items ≡ readings_calls holds.now) }
+    calls: &[Played<DoubleBits>],
+    read: &[Option<DoubleBits>],
+    other_calls: &[Played<DoubleBits>],
+) -> bool
+    ensures { result ≡ (places_for calls.now holds.now && places_for «other_calls».now read.now) }
 {
-    let mut calls = Vec::new(heap);
-    for hold in holds {
-        calls.push(unplayed(Call::Batch(batch(hold))))?;
+    has_places(calls, holds) && has_places(other_calls, read)
+}
+
+// Whether a list has one place for the call of each reading and one for the close, and no more.
+fn has_places(calls: &[Played<DoubleBits>], holds: &[Option<DoubleBits>]) -> bool
+    ensures { result ≡ places_for calls.now holds.now }
+{
+    match calls {
+        [] => false,
+        [_, rest @ ..] => rest.len() == holds.len(),
     }
-    calls.push(unplayed(Call::Close))?;
-    Ok(calls)
+}
+
+// Lays the calls that write readings into a list that has just the places for them: a batch of one level for each, and then the
+// close.
+pub(crate) fn lay_calls<'a>(holds: &'a [Option<DoubleBits>], calls: &mut [Played<'a, DoubleBits>])
+    ensures { length calls.old ≡ length holds.now + 1 → calls_in hold_bytes calls.new ≡ readings_calls holds.now }
+{
+    for at in 0..calls.len() {
+        calls[at] = unplayed(call_at(holds, at));
+    }
+}
+
+// The call of a place: a batch of the reading that stands there, and behind the readings the close.
+fn call_at(holds: &[Option<DoubleBits>], at: usize) -> Call<'_, DoubleBits>
+    ensures { call_of hold_bytes result ≡ get_or (readings_calls holds.now) at close }
+{
+    match holds.get(at) {
+        Some(hold) => Call::Batch(batch(hold)),
+        None => Call::Close,
+    }
 }
 
 // A call that has no answer yet.

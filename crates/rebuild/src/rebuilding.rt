@@ -1,13 +1,11 @@
-ghost use Rattle.std.specs.Prelude.{◌≡◌, ℕ, true, List, Option};
+ghost use Rattle.std.specs.Prelude.{◌≡◌, true};
 ghost use Rattle.floats.specs.Floats.{double};
 ghost use Rattle.ledger.specs.Laws.{Exactly};
 ghost use Rattle.page_log.specs.Logs.{context};
-ghost use Rattle.floats.specs.declared.bits.Bits.{Bits};
-ghost use Rattle.runs.specs.Runs.{calls_in};
-ghost use Rattle.rebuild.specs.Readings.{hold_bytes, readings_column, readings_calls};
-ghost use Rattle.rebuild.specs.Rebuilt.{Rebuilds, HaveSameFigures};
+ghost use Rattle.rebuild.specs.Readings.{readings_column};
+ghost use Rattle.rebuild.specs.Rebuilt.{Rebuilds, RecordsAgree};
 
-use crate::calls::{calls_for, first_refusal};
+use crate::calls::{first_refusal, have_places, lay_calls};
 use crate::unbuilt::Unbuilt;
 use body_coder::BodyCoder;
 use columns::{Column, Settings};
@@ -17,7 +15,6 @@ use page_log::Record;
 use refusals::ChunkFault;
 use runs::{Played, Run, has_same_figures, replay_both};
 use sinks::PageSink;
-use std::alloc::Global;
 
 // A DOUBLE for each reading that is there, and a null for a missing one.
 pub const COLUMN: Column = Column {
@@ -42,8 +39,16 @@ pub struct Rebuilding<
 }
 
 // Writes readings to a chunk, and what was read of such a chunk's pages to another, each with settings, coders and a sink of its
-// own. Whatever these are: the two records agree if the readings that were read are those that were written.
+// own; each reading is a batch of one level. The two records agree exactly if the readings have the same figures, so they do where
+// those that were read are those that were written.
+//
+// The calls are laid into the two lists, each with one place for each reading and one for the close, and each call gets its answer
+// there. With fewer places or more it is refused (`Places`), and the lists are as they were. Else every call is played, and it is
+// refused for the first refusal among the answers (`Refused`): 21 where settings are not allowed; where a page cannot be written,
+// 22 of the next reading, or, if there is none, 24 or 25 of the close. Then the lists keep calls and answers. Where it is refused
+// there are no chunks, the sinks are given up, and nothing is said of the bytes in the memory that they were lent.
 pub fn rebuild<
+    'a,
     L: LevelCoder,
     B: BodyCoder,
     S: PageSink + Drop,
@@ -51,49 +56,23 @@ pub fn rebuild<
     C: BodyCoder,
     T: PageSink + Drop,
 >(
-    heap: Global,
-    holds: &[Option<DoubleBits>],
+    holds: &'a [Option<DoubleBits>],
     settings: Settings,
     sink: S,
-    read: &[Option<DoubleBits>],
+    calls: &mut [Played<'a, DoubleBits>],
+    read: &'a [Option<DoubleBits>],
     other_settings: Settings,
     other_sink: T,
+    other_calls: &mut [Played<'a, DoubleBits>],
 ) -> Result<Rebuilding<L, B, S, M, C, T>, Unbuilt>
     ensures { Rebuilds (context double L.LevelCoder.coding B.BodyCoder.body readings_column settings) (context double M.LevelCoder.coding C.BodyCoder.body readings_column «other_settings»)
-        sink «other_sink» holds.now read.now result }
+        sink «other_sink» holds.now read.now calls.old «other_calls».old result calls.new «other_calls».new }
 {
-    let mut calls = calls_for(heap, holds)?;
-    let mut other_calls = calls_for(heap, read)?;
-    played(
-        settings,
-        sink,
-        calls.as_mut_slice(),
-        other_settings,
-        other_sink,
-        other_calls.as_mut_slice(),
-    )
-}
-
-// Plays the calls that write readings to two chunks.
-fn played<
-    L: LevelCoder,
-    B: BodyCoder,
-    S: PageSink + Drop,
-    M: LevelCoder,
-    C: BodyCoder,
-    T: PageSink + Drop,
->(
-    settings: Settings,
-    sink: S,
-    calls: &mut [Played<DoubleBits>],
-    other_settings: Settings,
-    other_sink: T,
-    other_calls: &mut [Played<DoubleBits>],
-) -> Result<Rebuilding<L, B, S, M, C, T>, Unbuilt>
-    ensures { (hs rs : List (Option (Bits ℕ))) → calls_in hold_bytes calls.old ≡ readings_calls hs → calls_in hold_bytes «other_calls».old ≡ readings_calls rs
-        → Rebuilds (context double L.LevelCoder.coding B.BodyCoder.body readings_column settings) (context double M.LevelCoder.coding C.BodyCoder.body readings_column «other_settings»)
-        sink «other_sink» hs rs result }
-{
+    if !have_places(holds, calls, read, other_calls) {
+        return Err(Unbuilt::Places);
+    }
+    lay_calls(holds, calls);
+    lay_calls(read, other_calls);
     let (written, rebuilt) = replay_both(
         COLUMN,
         settings,
@@ -107,7 +86,7 @@ fn played<
     if let Some(fault) = first_refusal(calls).or(first_refusal(other_calls)) {
         return Err(Unbuilt::Refused(fault));
     }
-    let agrees = have_same_figures(&written.record, &rebuilt.record);
+    let agrees = records_agree(&written.record, &rebuilt.record);
     Ok(Rebuilding {
         written,
         rebuilt,
@@ -115,9 +94,9 @@ fn played<
     })
 }
 
-// Whether two records are there, and have the same figures.
-fn have_same_figures(one: &Result<Record, ChunkFault>, other: &Result<Record, ChunkFault>) -> bool
-    ensures { Exactly (result ≡ true) (HaveSameFigures one.now other.now) }
+// Whether two records agree: both are there, and they have the same figures.
+fn records_agree(one: &Result<Record, ChunkFault>, other: &Result<Record, ChunkFault>) -> bool
+    ensures { Exactly (result ≡ true) (RecordsAgree one.now other.now) }
 {
     match (one, other) {
         (Ok(one), Ok(other)) => has_same_figures(one, other),

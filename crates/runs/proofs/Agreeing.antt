@@ -58,7 +58,7 @@ module _ (h k : History) where
 
 -- records of two runs of one column that took the same
 pub same_figures : (x y : Context) (p q : Page) (r s : Result Record ChunkFault) → x.kind ≡ y.kind → x.column ≡ y.column
-    → IfOk r (λ a. a.figures ≡ figures x.kind (layout x) p) → IfOk s (λ a. a.figures ≡ figures y.kind (layout y) q) → p ≡ q → SameFigures r s
+    → IfOk r (λ a. a.figures ≡ figures x.kind (layout x) p) → IfOk s (λ a. a.figures ≡ figures y.kind (layout y) q) → p ≡ q → IfOk r (λ a. IfOk s (SameFigures a))
 same_figures x y p q (Ok r) (Ok s) k c f g e = f ∙ (λ j. figures (k j) (layout_of (c j) x.settings) (e j)) ∙ sym g
 same_figures x y p q (Ok r) (Err d) k c f g e = tt
 same_figures x y p q (Err d) s k c f g e = tt

@@ -46,7 +46,7 @@ module _ {S : Type 0} (m : StoreMeaning S) (w : SinkMeaning S) where
       (t.0, (t.1.0, t.1.1, t.1.2, threaded_more (and_call h d q) cs t.1.0 t.1.1 rs k1 s1 c r k2 s2 t.1.3 p st))
 
 -- the calls as the ledger has them follow from the calls
-ledger_calls : {V : Type 0} (f : V → List ℕ) (ps : List (Played V)) → calls_in f ps ≡ map (call_of f) (lent_calls ps)
+pub ledger_calls : {V : Type 0} (f : V → List ℕ) (ps : List (Played V)) → calls_in f ps ≡ map (call_of f) (lent_calls ps)
 ledger_calls f [] = refl
 ledger_calls f (p ∷ ps) = ap (λ cs. call_of f p.call ∷ cs) (ledger_calls f ps)
 

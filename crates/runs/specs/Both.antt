@@ -4,7 +4,7 @@ use Rattle.level_coder.specs.declared.coder.LevelCoder as level_coders
 use Rattle.body_coder.specs.declared.coder.BodyCoder as body_coders
 use Rattle.sinks.specs.declared.sink.PageSink as sinks
 use Rattle.sinks.specs.declared.store.PageStore as stores
-use Rattle.std.specs.Prelude.{◌≡◌, ℕ, Bool, true, false, ◌&&◌, List, Ok, Err, Result}
+use Rattle.std.specs.Prelude.{◌≡◌, ℕ, Bool, true, false, ◌&&◌, List, Ok, Err, IfOk, Result}
 use Rattle.refusals.specs.declared.fault.ChunkFault.{ChunkFault}
 use Rattle.refusals.specs.declared.fault.ChunkFault.TheVariants.{NoRecord}
 use Rattle.ledger.specs.Laws.{Exactly}
@@ -19,11 +19,9 @@ use Rattle.chunk.specs.Reads.{answered}
 use Rattle.runs.specs.Runs.{Ran}
 use Rattle.runs.specs.declared.replaying.Run.{Run}
 
--- two records, where both were given, have the same rows, levels, nulls, NaN, level counts, smallest and largest, byte for byte
-abbrev pub SameFigures : Result Record ChunkFault → Result Record ChunkFault → Type 0
-SameFigures (Ok p) (Ok q) = p.figures ≡ q.figures
-SameFigures (Ok p) (Err e) = Unit {0}
-SameFigures (Err e) q = Unit {0}
+-- two records have the same rows, levels, nulls, NaN, level counts, smallest and largest, byte for byte
+abbrev pub SameFigures : Record → Record → Type 0
+SameFigures p q = p.figures ≡ q.figures
 
 module _ {K L B S M C T : Type 0} {gk : kinds.Ghosts K} {gl : level_coders.Ghosts L} {gb : body_coders.Ghosts B} {gs : sinks.Ghosts S} {gt : stores.Ghosts S}
     {gm : level_coders.Ghosts M} {gc : body_coders.Ghosts C} {hs : sinks.Ghosts T} {ht : stores.Ghosts T} where
@@ -33,7 +31,8 @@ module _ {K L B S M C T : Type 0} {gk : kinds.Ghosts K} {gl : level_coders.Ghost
     pub between : List ℕ
     pub one : Ran x k cs s rs r between
     pub other : Ran y j ds between qs q s'
-    pub agree : took_all (layout x) cs rs ≡ took_all (layout y) ds qs → SameFigures (answered said_record r.record) (answered said_record q.record)
+    pub agree : took_all (layout x) cs rs ≡ took_all (layout y) ds qs
+        → IfOk (answered said_record r.record) (λ a. IfOk (answered said_record q.record) (SameFigures a))
 
 -- what the answer to a comparison of two chunks that have records says: whether the figures of all that each took are the
 -- same, which they are where both took the same, however it was cut into pages

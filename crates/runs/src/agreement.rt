@@ -4,7 +4,7 @@ ghost use Rattle.ledger.specs.Laws.{Exactly};
 ghost use Rattle.page_log.specs.Records.{said_record};
 ghost use Rattle.chunk.specs.Histories.{History};
 ghost use Rattle.chunk.specs.Stands.{Stands};
-ghost use Rattle.runs.specs.Both.{Agreed};
+ghost use Rattle.runs.specs.Both.{Agreed, SameFigures};
 
 use body_coder::BodyCoder;
 use buffers::Buffer;
@@ -58,7 +58,7 @@ fn is_same_histogram(one: &Option<LevelHistogram>, other: &Option<LevelHistogram
 
 // Whether two records have the same figures, byte for byte. The rest of them, the bytes and the orders, tells how the pages were cut.
 pub fn has_same_figures(one: &Record, other: &Record) -> bool
-    ensures { Exactly (result ≡ true) ((said_record one.now).figures ≡ (said_record other.now).figures) }
+    ensures { Exactly (result ≡ true) (SameFigures (said_record one.now) (said_record other.now)) }
 {
     one.rows == other.rows
         && one.levels == other.levels

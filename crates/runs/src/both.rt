@@ -12,8 +12,8 @@ use level_coder::LevelCoder;
 use sinks::PageSink;
 
 // Opens two chunks of one column, each with settings, a sink, coders and a type of values of its own, and plays every call of a list
-// on each. Whatever was called, and however it was cut into pages: where both took the same and both give their records, these
-// have the same figures.
+// on each, as `replay` does, the first with the scratch that is given and the second with what the first left of it. Whatever was
+// called, and however it was cut into pages: where both took the same and both give their records, these have the same figures.
 #[tactic(auto, using(crate::proofs::Agreeing::ran_both))]
 pub fn replay_both<
     K: Kind,

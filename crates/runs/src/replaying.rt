@@ -1,4 +1,4 @@
-ghost use Rattle.std.specs.Prelude.{◌≡◌, map};
+ghost use Rattle.std.specs.Prelude.{◌≡◌};
 ghost use Rattle.page_log.specs.Logs.{context};
 ghost use Rattle.chunk.specs.Histories.{History};
 ghost use Rattle.chunk.specs.Stands.{Stands};
@@ -23,7 +23,8 @@ pub struct Run<K: Kind, L: LevelCoder, B: BodyCoder, S: PageSink> {
     pub entries: EntryTable,
 }
 
-// Plays every call of a list on a chunk, and puts its answer beside it.
+// Plays every call of a list on a chunk, refused ones too, and puts its answer beside it, in place of one that stood there.
+// Nothing is refused here: what a call is refused for, such as a scratch below 9,227 bytes, it answers.
 pub fn play_all<K: Kind, L: LevelCoder, B: BodyCoder, S: PageSink, V: ValueOf<K> + Copy>(
     chunk: &mut ColumnChunk<K, L, B, S>,
     calls: &mut [Played<V>],
@@ -43,7 +44,8 @@ pub fn play_all<K: Kind, L: LevelCoder, B: BodyCoder, S: PageSink, V: ValueOf<K>
     }
 }
 
-// Opens a chunk and plays every call of a list on it.
+// Opens a chunk and plays every call of a list on it, as `play_all` does. With a column or settings that are not allowed the chunk
+// is closed, so that each call answers 21, and asking for the record 26.
 pub fn replay<K: Kind, L: LevelCoder, B: BodyCoder, S: PageSink, V: ValueOf<K> + Copy>(
     column: Column,
     settings: Settings,

@@ -9,7 +9,7 @@ use packed::PackedSink;
 use page_log::Record;
 use rebuild::{Rebuilding, Unbuilt, rebuild};
 use release::VatRecord;
-use runs::has_same_figures;
+use runs::{Call, Played, has_same_figures};
 use sinks::PageStore;
 use slotted::SlottedSink;
 use std::alloc::Global;
@@ -116,18 +116,25 @@ pub fn rebuild_from_pages(
     sink.check().map_err(refused)?;
     let other_sink = SlottedSink::new(other_area.as_mut_slice());
     other_sink.check().map_err(refused)?;
+    let unplayed = Played {
+        call: Call::Close,
+        answer: None,
+    };
+    let mut calls = vec![in heap; unplayed; holds.len().saturating_add(1)]?;
+    let mut other_calls = vec![in heap; unplayed; read.len().saturating_add(1)]?;
     let Rebuilding {
         written,
         rebuilt,
         agrees,
     } = rebuild::<Packed, Plain, PackedSink, Packed, Split, SlottedSink>(
-        heap,
         holds,
         pages_of(1, PAGE),
         sink,
+        calls.as_mut_slice(),
         read.as_slice(),
         pages_of(2, REBUILT_PAGE),
         other_sink,
+        other_calls.as_mut_slice(),
     )
     .map_err(unbuilt)?;
     let again = written.record.map_err(refused)?;
@@ -140,7 +147,7 @@ pub fn rebuild_from_pages(
 
 fn unbuilt(why: Unbuilt) -> anyhow::Error {
     match why {
-        Unbuilt::Memory(e) => anyhow::Error::from(e),
+        Unbuilt::Places => anyhow::Error::from(why),
         Unbuilt::Refused(fault) => refused(fault),
     }
 }
