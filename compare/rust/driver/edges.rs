@@ -126,7 +126,7 @@ fn pages(random: &mut Random, text: &str, opening: Opening, out: &mut impl Write
     Ok(())
 }
 
-// Pages of one row, up to the end of an area and beyond, or in an area that no sink may use.
+// Pages of one row, up to the end of an area and beyond, or in an area of a size that the sink does not use.
 fn areas(random: &mut Random, text: &str, opening: Opening, out: &mut impl Write) -> io::Result<()> {
     let length = opening.width.max(1);
     let page = if opening.width == 0 { 5 } else { opening.width };
