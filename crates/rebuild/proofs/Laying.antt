@@ -1,7 +1,7 @@
 -- Calls laid into a list one after the other: those that are there so far.
-use Rattle.std.proofs.Common.{◌≡◌, ℕ, zero, suc, ◌+◌, ◌<◌, true, ◌&&◌, List, [], ◌∷◌, ◌++◌, map, length, length-append, get_or, take, set, Option, sym, refl, ap, ◌∙◌, arith}
+use Rattle.std.proofs.Common.{◌≡◌, ℕ, ◌+◌, ◌<◌, true, ◌&&◌, List, [], ◌∷◌, ◌++◌, map, length, length-append, get_or, take, set, Option, sym, refl, ap, ◌∙◌, arith}
 use Rattle.std.proofs.lemmas.Bool.{eqb-true, and_parts}
-use Rattle.std.proofs.lemmas.List.{take_more, take_more_set, length-map}
+use Rattle.std.proofs.lemmas.List.{take_all, take_more, take_more_set, map_push, length-map, length-set}
 use Rattle.floats.specs.declared.bits.Bits.{Bits}
 use Rattle.ledger.specs.Ledger.{close}
 use Rattle.runs.specs.declared.call.Played.{Played}
@@ -24,19 +24,6 @@ module _ (hs rs : List (Option (Bits ℕ))) (cs ds : List (Played (Bits ℕ))) w
   pub places_of_other : (has_places cs hs && has_places ds rs) ≡ true → length ds ≡ length rs + 1
   places_of_other e = let p = and_parts (has_places cs hs) (has_places ds rs) e in eqb-true (length ds) (length rs + 1) p.1
 
-append_map : (ps : List (Played (Bits ℕ))) (p : Played (Bits ℕ)) → calls_in hold_bytes (ps ++ (p ∷ [])) ≡ calls_in hold_bytes ps ++ (call_of hold_bytes p.call ∷ [])
-append_map [] p = refl
-append_map (q ∷ ps) p = ap (λ cs. call_of hold_bytes q.call ∷ cs) (append_map ps p)
-
-set_length : (ps : List (Played (Bits ℕ))) (k : ℕ) (p : Played (Bits ℕ)) → length (set ps k p) ≡ length ps
-set_length [] k p = refl
-set_length (q ∷ ps) zero p = refl
-set_length (q ∷ ps) (suc k) p = ap suc (set_length ps k p)
-
-take-all : {A : Type 0} (xs : List A) → take (length xs) xs ≡ xs
-take-all [] = refl
-take-all (x ∷ xs) = ap (λ ys. x ∷ ys) (take-all xs)
-
 module _ (hs : List (Option (Bits ℕ))) (old : List (Played (Bits ℕ))) where
   pub laid_none : LaidSoFar hs old old 0
   laid_none = record { laid = λ e. refl; size = refl }
@@ -45,12 +32,12 @@ module _ (hs : List (Option (Bits ℕ))) (old : List (Played (Bits ℕ))) where
       → call_of hold_bytes p.call ≡ get_or (readings_calls hs) at close → LaidSoFar hs old (set new at p) (at + 1)
   laid_more new at p few l is = record {
     laid = λ e.
-        ap (calls_in hold_bytes) (take_more_set new at p few) ∙ append_map (take at new) p ∙ ap (λ cs. cs ++ (call_of hold_bytes p.call ∷ [])) (l.laid e)
+        ap (calls_in hold_bytes) (take_more_set new at p few) ∙ map_push (λ q. call_of hold_bytes q.call) (take at new) p ∙ ap (λ cs. cs ++ (call_of hold_bytes p.call ∷ [])) (l.laid e)
         ∙ ap (λ c. take at (readings_calls hs) ++ (c ∷ [])) is ∙ sym (take_more (readings_calls hs) at close (omega (arith, few, e, l.size, length_calls hs)));
-    size = set_length new at p ∙ l.size;
+    size = length-set new at p ∙ l.size;
   }
 
   pub laid_all : (new : List (Played (Bits ℕ))) (at : ℕ) → at ≡ length new → LaidSoFar hs old new at → length old ≡ length hs + 1 → calls_in hold_bytes new ≡ readings_calls hs
   laid_all new at e l places =
-      ap (calls_in hold_bytes) (sym (take-all new) ∙ ap (λ k. take k new) (sym e)) ∙ l.laid places
-      ∙ ap (λ k. take k (readings_calls hs)) (e ∙ l.size ∙ places ∙ sym (length_calls hs)) ∙ take-all (readings_calls hs)
+      ap (calls_in hold_bytes) (sym (take_all at new (omega (arith, e)))) ∙ l.laid places
+      ∙ take_all at (readings_calls hs) (omega (arith, e, l.size, places, length_calls hs))

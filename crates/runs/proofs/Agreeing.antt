@@ -12,7 +12,7 @@ use Rattle.columns.specs.Columns.{layout_of}
 use Rattle.ledger.specs.Context.{Context, layout}
 use Rattle.ledger.specs.Figures.{figures}
 use Rattle.ledger.specs.Laws.{Exactly}
-use Rattle.ledger.specs.Ledger.{Ledger, has_record}
+use Rattle.ledger.specs.Ledger.{Ledger, has_record, input}
 use Rattle.ledger.specs.Pages.{Page}
 use Rattle.ledger.specs.Records.{Record, chunk_record}
 use Rattle.ledger.specs.Answers.{record_answer}
@@ -23,6 +23,10 @@ use Rattle.ledger.specs.Ledger.{Call, Answer}
 use Rattle.runs.specs.Runs.{Ran}
 use Rattle.runs.specs.Both.{Agreed, SameFigures, RanBoth}
 use Rattle.runs.specs.declared.replaying.Run.{Run}
+
+-- figures need the kind and the column's maxima alone, which settings do not change
+alike : (x y : Context) (p q : Page) → x.kind ≡ y.kind → x.column ≡ y.column → p ≡ q → figures x.kind (layout x) p ≡ figures y.kind (layout y) q
+alike x y p q k c e = λ j. figures (k j) (layout_of (c j) x.settings) (e j)
 
 has_from_ok : (x : Context) (l : Ledger) (r : Record) → Ok r ≡ record_answer x l → has_record l.phase ≡ true
 has_from_ok x l r e =
@@ -53,13 +57,13 @@ module _ (h k : History) where
       then = λ y. sym one.figures ∙ e.then y ∙ two.figures;
       back = λ y. e.back (one.figures ∙ y ∙ sym two.figures);
     };
-    same_input = λ y c i. e.back (one.figures ∙ (λ j. figures (y j) (layout_of (c j) h.context.settings) (i j)) ∙ sym two.figures);
+    same_input = λ y c i. e.back (one.figures ∙ alike h.context k.context (input h.ledger) (input k.ledger) y c i ∙ sym two.figures);
   }
 
 -- records of two runs of one column that took the same
 pub same_figures : (x y : Context) (p q : Page) (r s : Result Record ChunkFault) → x.kind ≡ y.kind → x.column ≡ y.column
     → IfOk r (λ a. a.figures ≡ figures x.kind (layout x) p) → IfOk s (λ a. a.figures ≡ figures y.kind (layout y) q) → p ≡ q → IfOk r (λ a. IfOk s (SameFigures a))
-same_figures x y p q (Ok r) (Ok s) k c f g e = f ∙ (λ j. figures (k j) (layout_of (c j) x.settings) (e j)) ∙ sym g
+same_figures x y p q (Ok r) (Ok s) k c f g e = f ∙ alike x y p q k c e ∙ sym g
 same_figures x y p q (Ok r) (Err d) k c f g e = tt
 same_figures x y p q (Err d) s k c f g e = tt
 

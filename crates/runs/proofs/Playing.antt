@@ -5,7 +5,7 @@ use Rattle.body_coder.specs.declared.coder.BodyCoder as body_coders
 use Rattle.sinks.specs.declared.sink.PageSink as sinks
 use Rattle.sinks.specs.declared.store.PageStore as stores
 use Rattle.std.proofs.Common.{◌≡◌, ℕ, zero, suc, ◌+◌, ◌<◌, List, [], ◌∷◌, ◌++◌, map, length, get_or, take, set, Some, sym, refl, ap, ◌∙◌, subst, arith}
-use Rattle.std.proofs.lemmas.List.{take_more, take_more_set, get_or-map, length-map}
+use Rattle.std.proofs.lemmas.List.{take_all, take_more, take_more_set, get_or-map, length-map}
 use Rattle.std.proofs.lemmas.Grind.{flat_map-append}
 use Rattle.sinks.specs.Stores.{StoreMeaning}
 use Rattle.sinks.specs.Sinks.{SinkMeaning}
@@ -104,9 +104,5 @@ module _ {K L B S : Type 0} {gk : kinds.Ghosts K} {gl : level_coders.Ghosts L} {
       → (h : History) → Stands h c0 → PlayedAll h (calls_in f old) c0 s0 (answers_in new) c s
   so_far_all f c0 s0 old new at c s e a h st =
       let n : at ≡ length (calls_in f old) = e ∙ sym (length-map new (λ p. p.call)) ∙ ap length a.calls ∙ length-map old (λ p. p.call) ∙ sym (length-map old (λ p. call_of f p.call)) in
-      subst (λ q. PlayedAll h q c0 s0 (answers_in new) c s) (ap (λ i. take i (calls_in f old)) n ∙ take-all (calls_in f old))
-      (subst (λ q. PlayedAll h (take at (calls_in f old)) c0 s0 (answers_in q) c s) (ap (λ i. take i new) e ∙ take-all new) (a.played h st))
-    where
-      take-all : {A : Type 0} (xs : List A) → take (length xs) xs ≡ xs
-      take-all [] = refl
-      take-all (x ∷ xs) = ap (λ ys. x ∷ ys) (take-all xs)
+      subst (λ q. PlayedAll h q c0 s0 (answers_in new) c s) (take_all at (calls_in f old) (omega (arith, n)))
+      (subst (λ q. PlayedAll h (take at (calls_in f old)) c0 s0 (answers_in q) c s) (take_all at new (omega (arith, e))) (a.played h st))
